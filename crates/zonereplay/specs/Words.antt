@@ -1,0 +1,68 @@
+-- The words of the command line.
+use Rattle.std.specs.Prelude.{ℕ, ◌-◌, ◌*◌, ◌/◌, Bool, ◌||◌, ◌&&◌, ◌==◌, nat_le, if◌then◌else◌, List, [], ◌∷◌, length, take, drop, slice_index, Option, Some, None, codes}
+use Rattle.std.specs.Option.{option_map, option_and_then}
+use Rattle.std.specs.Str.{bytes_eq}
+use Rattle.zone_outside.specs.Numbers.{number_of}
+
+-- a number that is at least this
+abbrev pub from_least : ℕ → Option ℕ → Option ℕ
+from_least least None = None
+from_least least (Some n) = if nat_le least n then Some n else None
+
+-- so many requests in one of this unit, in thousandths of a request per second
+abbrev pub rate_in : List ℕ → Option ℕ → Option ℕ
+rate_in unit requests =
+    if bytes_eq unit (codes "r/s") then option_map (λ n. n * 1000) requests
+    else if bytes_eq unit (codes "r/m") then option_map (λ n. n * 1000 / 60) requests
+    else None
+
+-- `Nr/s` or `Nr/m` with N from 1 to 1,000,000
+abbrev pub rate_of : List ℕ → Option ℕ
+rate_of word =
+    let front = length word - 3 in
+    rate_in (drop front word) (from_least 1 (number_of 1000000 (take front word)))
+
+-- 0 to 1,000,000 requests, in thousandths
+abbrev pub burst_of : List ℕ → Option ℕ
+burst_of word = option_map (λ n. n * 1000) (number_of 1000000 word)
+
+-- how many bytes the last letter of a size stands for, 1 where it is none of the letters
+abbrev pub unit_of : ℕ → ℕ
+unit_of c =
+    if c == 75 || c == 107 then 1024
+    else if c == 77 || c == 109 then 1048576
+    else 1
+
+-- a number, or one followed by `k`, `K`, `m` or `M`
+abbrev pub plain_size_of : List ℕ → Option ℕ
+plain_size_of word =
+    let front = length word - 1 in
+    let unit = unit_of (slice_index word front) in
+    if unit == 1 then number_of 67108864 word else option_map (λ n. n * unit) (number_of 67108864 (take front word))
+
+-- a size that a zone may have
+abbrev pub in_limits : Option ℕ → Option ℕ
+in_limits None = None
+in_limits (Some n) = if nat_le 32768 n && nat_le n 67108864 then Some n else None
+
+-- the size of a zone, in bytes
+abbrev pub size_of : List ℕ → Option ℕ
+size_of word = in_limits (plain_size_of word)
+
+-- what `one` replays: thousandths of a request per second, thousandths of a request, bytes, and the log's name
+pub record OneJob : Type 0 where
+  pub rate : ℕ
+  pub burst : ℕ
+  pub bytes : ℕ
+  pub log : List ℕ
+
+-- the job, where each of its numbers was read
+abbrev pub one_job : Option ℕ → Option ℕ → Option ℕ → List ℕ → Option OneJob
+one_job (Some rate) (Some burst) (Some bytes) log = Some (record { rate = rate; burst = burst; bytes = bytes; log = log })
+one_job rate burst bytes log = None
+
+-- `one RATE BURST SIZE LOG`
+abbrev pub one_of : List (List ℕ) → Option OneJob
+one_of (command ∷ rate ∷ burst ∷ size ∷ log ∷ []) =
+    if bytes_eq command (codes "one") then one_job (rate_of rate) (burst_of burst) (size_of size) log else None
+one_of words = None

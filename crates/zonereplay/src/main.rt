@@ -1,0 +1,8 @@
+//! The replayer.
+#![tactic(auto)]
+
+mod cut;
+mod keys;
+mod words;
+
+fn main() {}

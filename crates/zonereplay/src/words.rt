@@ -1,0 +1,48 @@
+ghost use Rattle.std.specs.Prelude.{◌≡◌};
+ghost use Rattle.zonereplay.specs.Words.{rate_of, burst_of, unit_of, plain_size_of, size_of};
+
+use zone_outside::read_number;
+
+/// A rate `Nr/s` or `Nr/m` with N from 1 to 1,000,000, in thousandths of a request per second.
+pub fn read_rate(word: &[u8]) -> Option<u64>
+    ensures { result ≡ rate_of word.now }
+{
+    let (digits, unit) = word.split_at(word.len().saturating_sub(3));
+    let requests = read_number(digits, 1_000_000).filter(|n| *n >= 1);
+    match unit {
+        b"r/s" => requests.map(|n| n * 1000),
+        b"r/m" => requests.map(|n| n * 1000 / 60),
+        _ => None,
+    }
+}
+
+/// A burst of 0 to 1,000,000 requests, in thousandths of a request.
+pub fn read_burst(word: &[u8]) -> Option<u64>
+    ensures { result ≡ burst_of word.now }
+{
+    let requests = read_number(word, 1_000_000)?;
+    Some(requests * 1000)
+}
+
+/// How many bytes the last letter of a size stands for, 1 where it is no such letter.
+fn unit_bytes(letter: u8) -> u64
+    ensures { result ≡ unit_of letter }
+{
+    match letter {
+        b'k' | b'K' => 1024,
+        b'm' | b'M' => 1_048_576,
+        _ => 1,
+    }
+}
+
+/// The size of a zone: a number of bytes, or of 1024 or 1,048,576 bytes by a last letter `k`, `K`, `m` or
+/// `M`, from 32,768 to 67,108,864 bytes.
+pub fn read_size(word: &[u8]) -> Option<u64>
+    ensures { result ≡ size_of word.now }
+{
+    let (last, front) = word.split_last()?;
+    let unit = unit_bytes(*last);
+    let number = read_number(if unit == 1 { word } else { front }, 67_108_864)?;
+    let bytes = number * unit;
+    (32_768..=67_108_864).contains(&bytes).then_some(bytes)
+}
