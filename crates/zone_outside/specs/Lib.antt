@@ -1,3 +1,5 @@
-pub mod Numbers
+pub mod Answers
+pub mod Faults
 pub mod Coded
 pub mod Decoding
+pub mod Numbers

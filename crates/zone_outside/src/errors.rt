@@ -1,3 +1,5 @@
+ghost use Rattle.std.specs.Prelude.{◌≡◌};
+
 use std::alloc::{AllocError, AllocFailed};
 
 /// There was no memory for what a call makes.
@@ -9,12 +11,16 @@ pub struct NoMemory;
 pub struct Failed;
 
 impl From<AllocError> for NoMemory {
+    ghost from_gives = { λ _ e. e ≡ record {} };
+
     fn from(_error: AllocError) -> NoMemory {
         NoMemory
     }
 }
 
 impl<T: Drop> From<AllocFailed<T>> for NoMemory {
+    ghost from_gives = { λ _ e. e ≡ record {} };
+
     fn from(_error: AllocFailed<T>) -> NoMemory {
         NoMemory
     }

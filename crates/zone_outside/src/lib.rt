@@ -1,12 +1,17 @@
-//! What lies outside the zones: texts as lists of bytes, and the devices that give and take them.
+//! What lies outside the zones: texts as lists of bytes, the numbers and the coded text in them, and the
+//! devices that give and take them.
 #![tactic(auto)]
 
 pub mod coded;
+pub mod devices;
 pub mod errors;
 pub mod numbers;
 pub mod text;
+pub mod transfer;
 
 pub use coded::{DecodeFault, decode};
+pub use devices::{Shelf, Sink, Source};
 pub use errors::{Failed, NoMemory};
 pub use numbers::read_number;
 pub use text::Text;
+pub use transfer::{ReadAnswer, WriteFault, read_all, read_named, write_all};
