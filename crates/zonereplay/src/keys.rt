@@ -1,5 +1,6 @@
-ghost use Rattle.std.specs.Prelude.{◌≡◌};
-ghost use Rattle.zonereplay.specs.Reading.{GivesKey, GivesRest, GivesLine, GivesKeys};
+ghost use Rattle.std.specs.Prelude.{◌≡◌, ◌<◌, ◌≤◌, ◌^◌, length, IfOk};
+ghost use Rattle.std.specs.List.{All};
+ghost use Rattle.zonereplay.specs.Reading.{IsInLimits, GivesKey, GivesRest, GivesLine, GivesKeys};
 
 use crate::cut::cut;
 use std::alloc::{AllocFailed, Global};
@@ -54,7 +55,8 @@ impl<T: Drop> From<AllocFailed<T>> for LogFault {
 
 /// The key that a word spells: 1 to 48 bytes of coded text.
 fn read_key(alloc: Global, word: &[u8]) -> Result<Key, DecodeFault>
-    ensures { GivesKey result word.now }
+    ensures value { GivesKey result word.now }
+    ensures limits { IfOk result (λ key. (0 < length key) × (length key ≤ 48)) }
 {
     let bytes = decode(alloc, word)?;
     if bytes.is_empty() || bytes.len() > MOST_KEY {
@@ -68,7 +70,9 @@ fn read_key(alloc: Global, word: &[u8]) -> Result<Key, DecodeFault>
 
 /// What the words after the moment say.
 fn read_rest(alloc: Global, moment: u64, rest: &[u8]) -> Result<KeyLine, LineFault>
-    ensures { GivesRest result moment rest.now }
+    requires { moment < 2 ^ 42 }
+    ensures value { GivesRest result moment rest.now }
+    ensures limits { IfOk result IsInLimits }
 {
     match cut(rest, b' ') {
         None => match read_key(alloc, rest) {
@@ -86,7 +90,8 @@ fn read_rest(alloc: Global, moment: u64, rest: &[u8]) -> Result<KeyLine, LineFau
 
 /// What a line says without its line feed.
 fn read_line(alloc: Global, line: &[u8]) -> Result<KeyLine, LineFault>
-    ensures { GivesLine result line.now }
+    ensures value { GivesLine result line.now }
+    ensures limits { IfOk result IsInLimits }
 {
     match cut(line, b' ') {
         Some((word, rest)) => match read_number(word, MOST_MOMENT) {
@@ -102,7 +107,8 @@ fn read_line(alloc: Global, line: &[u8]) -> Result<KeyLine, LineFault>
 
 /// The lines of a log of keys, `MOMENT KEY` each. It reads each byte a few times at most.
 pub fn read_keys(alloc: Global, text: &[u8]) -> Result<Vec<KeyLine>, LogFault>
-    ensures { GivesKeys result text.now }
+    ensures value { GivesKeys result text.now }
+    ensures limits { IfOk result (λ keys. All IsInLimits keys.items) }
 {
     let mut keys = Vec::new(alloc);
     let mut rest = text;

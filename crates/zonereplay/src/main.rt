@@ -2,7 +2,10 @@
 #![tactic(auto)]
 
 mod cut;
+mod job;
 mod keys;
+mod output;
+mod text;
 mod words;
 
 fn main() {}

@@ -1,11 +1,15 @@
-ghost use Rattle.std.specs.Prelude.{◌≡◌};
-ghost use Rattle.zonereplay.specs.Words.{rate_of, burst_of, unit_of, plain_size_of, size_of};
+ghost use Rattle.std.specs.Prelude.{◌≡◌, ◌≤◌, IfSome, MatchOption, Some, None};
+ghost use Rattle.req_zone.specs.Amount.{IsRate, greatest_burst};
+ghost use Rattle.zonereplay.specs.Words.{rate_of, burst_of, unit_of, size_of, one_of};
+ghost use Rattle.zonereplay.specs.Jobs.{asked};
 
-use zone_outside::read_number;
+use crate::job::Job;
+use zone_outside::{Text, read_number};
 
 /// A rate `Nr/s` or `Nr/m` with N from 1 to 1,000,000, in thousandths of a request per second.
 pub fn read_rate(word: &[u8]) -> Option<u64>
-    ensures { result ≡ rate_of word.now }
+    ensures value { result ≡ rate_of word.now }
+    ensures limits { IfSome result IsRate }
 {
     let (digits, unit) = word.split_at(word.len().saturating_sub(3));
     let requests = read_number(digits, 1_000_000).filter(|n| *n >= 1);
@@ -18,7 +22,8 @@ pub fn read_rate(word: &[u8]) -> Option<u64>
 
 /// A burst of 0 to 1,000,000 requests, in thousandths of a request.
 pub fn read_burst(word: &[u8]) -> Option<u64>
-    ensures { result ≡ burst_of word.now }
+    ensures value { result ≡ burst_of word.now }
+    ensures limits { IfSome result (λ burst. burst ≤ greatest_burst) }
 {
     let requests = read_number(word, 1_000_000)?;
     Some(requests * 1000)
@@ -38,11 +43,28 @@ fn unit_bytes(letter: u8) -> u64
 /// The size of a zone: a number of bytes, or of 1024 or 1,048,576 bytes by a last letter `k`, `K`, `m` or
 /// `M`, from 32,768 to 67,108,864 bytes.
 pub fn read_size(word: &[u8]) -> Option<u64>
-    ensures { result ≡ size_of word.now }
+    ensures value { result ≡ size_of word.now }
+    ensures limits { IfSome result (λ bytes. (32768 ≤ bytes) × (bytes ≤ 67108864)) }
 {
     let (last, front) = word.split_last()?;
     let unit = unit_bytes(*last);
     let number = read_number(if unit == 1 { word } else { front }, 67_108_864)?;
     let bytes = number * unit;
     (32_768..=67_108_864).contains(&bytes).then_some(bytes)
+}
+
+/// What the words `one RATE BURST SIZE LOG` ask for: the numbers and the log's name.
+pub(crate) fn read_one(words: &[Text]) -> Option<(Job, &Text)>
+    ensures { MatchOption result (one_of words.now ≡ None) (λ found. one_of words.now ≡ Some (asked found.0 found.1.now)) }
+{
+    let [command, rate, burst, size, log] = words else {
+        return None;
+    };
+    if command.bytes() != b"one".as_slice() {
+        return None;
+    }
+    let rate = read_rate(rate.bytes())?;
+    let burst = read_burst(burst.bytes())?;
+    let bytes = read_size(size.bytes())?;
+    Some((Job { rate, burst, bytes }, log))
 }
