@@ -6,6 +6,7 @@ pub mod coded;
 pub mod devices;
 pub mod errors;
 pub mod numbers;
+pub mod memory;
 pub mod text;
 pub mod transfer;
 
@@ -13,5 +14,6 @@ pub use coded::{DecodeFault, decode};
 pub use devices::{Shelf, Sink, Source};
 pub use errors::{Failed, NoMemory};
 pub use numbers::read_number;
+pub use memory::{MemFile, MemShelf, MemSink, MemSource, MemText};
 pub use text::Text;
 pub use transfer::{ReadAnswer, WriteFault, read_all, read_named, write_all};
