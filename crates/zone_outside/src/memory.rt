@@ -8,7 +8,7 @@ ghost use Rattle.zone_outside.specs.Memory.{repeated};
 ghost use Rattle.zone_outside.specs.Shelves.{text_named};
 
 use crate::devices::{Shelf, Sink, Source};
-use crate::errors::Failed;
+use crate::errors::{Failed, count_fault};
 use crate::text::Text;
 use std::alloc::Global;
 use std::marker::Model;
@@ -162,7 +162,7 @@ impl<'a> Source for MemSource<'a> {
     {
         self.reads = self.reads.saturating_add(1);
         if self.failing.contains(&self.reads) {
-            self.faults = self.faults.saturating_add(1);
+            count_fault(&mut self.faults);
             return Err(Failed);
         }
         refill(&mut self.front, self.piece, &mut self.copies);
@@ -267,7 +267,7 @@ impl<'a> Sink for MemSink<'a> {
         let count = piece.len().min(self.most);
         let fails = self.failing.contains(&self.writes);
         if fails || self.taken.extend_from_slice(&piece[..count]).is_err() {
-            self.faults = self.faults.saturating_add(1);
+            count_fault(&mut self.faults);
             return Err(Failed);
         }
         Ok(count)
@@ -340,7 +340,7 @@ impl<'a> Shelf for MemShelf<'a> {
         match self.found(name.bytes()) {
             Some(text) => Ok(MemSource::of(name, text)),
             None => {
-                self.faults = self.faults.saturating_add(1);
+                count_fault(&mut self.faults);
                 Err(Failed)
             }
         }
@@ -348,7 +348,7 @@ impl<'a> Shelf for MemShelf<'a> {
 
     fn settle(&mut self, item: MemSource<'a>) {
         if item.faults > 0 {
-            self.faults = self.faults.saturating_add(1);
+            count_fault(&mut self.faults);
         }
     }
 }
