@@ -3,3 +3,5 @@ pub mod Faults
 pub mod Coded
 pub mod Decoding
 pub mod Numbers
+pub mod Memory
+pub mod Shelves

@@ -1,4 +1,4 @@
-ghost use Rattle.std.specs.Prelude.{◌≡◌};
+ghost use Rattle.std.specs.Prelude.{◌≡◌, ◌+◌, ◌-◌, ◌^◌, ◌≤◌, min};
 
 use std::alloc::{AllocError, AllocFailed};
 
@@ -24,4 +24,12 @@ impl<T: Drop> From<AllocFailed<T>> for NoMemory {
     fn from(_error: AllocFailed<T>) -> NoMemory {
         NoMemory
     }
+}
+
+// Counts one fault more, up to the last value of the count.
+pub(crate) fn count_fault(faults: &mut u64)
+    ensures later { faults.old ≤ faults.new }
+    ensures more { faults.new ≡ min (faults.old + 1) (2 ^ 64 - 1) }
+{
+    *faults = faults.saturating_add(1);
 }

@@ -6,6 +6,8 @@ pub mod coded;
 pub mod devices;
 pub mod errors;
 pub mod numbers;
+pub mod memory;
+pub mod system;
 pub mod text;
 pub mod transfer;
 
@@ -13,5 +15,10 @@ pub use coded::{DecodeFault, decode};
 pub use devices::{Shelf, Sink, Source};
 pub use errors::{Failed, NoMemory};
 pub use numbers::read_number;
+pub use memory::{MemFile, MemShelf, MemSink, MemSource, MemText};
+pub use system::{FileShelf, FileSource, StdSink};
 pub use text::Text;
 pub use transfer::{ReadAnswer, WriteFault, read_all, read_named, write_all};
+
+#[cfg(test)]
+mod tests;

@@ -1,0 +1,28 @@
+-- The devices in memory, as contracts see them.
+use Rattle.std.specs.Prelude.{ℕ, zero, suc, List, [], ◌++◌}
+
+-- so many copies of a text, one after another
+unfoldable pub repeated : ℕ → List ℕ → List ℕ
+repeated zero xs = []
+repeated (suc n) xs = xs ++ repeated n xs
+
+-- a text in memory: its bytes, how many of them a read gives at most, and the numbers of the reads that fail
+pub record Text : Type 0 where
+  pub bytes : List ℕ
+  pub most : ℕ
+  pub failing : List ℕ
+
+-- a source in memory: its name, the bytes still to come, the numbers of the reads that fail, and its counts of reads and faults
+pub record Source : Type 0 where
+  pub name : List ℕ
+  pub left : List ℕ
+  pub failing : List ℕ
+  pub reads : ℕ
+  pub faults : ℕ
+
+-- a sink in memory: the bytes taken, the numbers of the writes that fail, and its counts of writes and faults
+pub record Sink : Type 0 where
+  pub taken : List ℕ
+  pub failing : List ℕ
+  pub writes : ℕ
+  pub faults : ℕ
