@@ -1,5 +1,5 @@
 -- The same words, kept as a finite map from offsets to lists.
-use Rattle.std.proofs.Common.{ℕ, ◌≡◌, ◌≢◌, ◌<◌, Bool, true, false, cond, List, [], length, set, sym, ap, subst, ◌∙◌, refl, arith, inl, inr, Some, None, Option}
+use Rattle.std.proofs.Common.{ℕ, ◌≡◌, ◌≢◌, cond, List, [], set, ap, ◌∙◌, arith, Some, Option}
 use Rattle.std.specs.Option.{unwrap_or}
 use Rattle.std.specs.Ordering.{nat_cmp, is_eq}
 use Rattle.std.proofs.lemmas.Cmp.{nat_cmp_total}

@@ -1,5 +1,5 @@
-use Rattle.std.proofs.Common.{ℕ, ◌+◌, suc, subst, ap, arith, drop, length, ◌≡◌, ◌∙◌, sym}
-use Rattle.zone_region.specs.Entries.{words_in, IsPlace}
+use Rattle.std.proofs.Common.{ℕ, suc, subst, arith, ◌∙◌}
+use Rattle.zone_region.specs.Entries.{IsPlace}
 use Rattle.zone_region.proofs.EntryLemmas.{place_here, place_later, words_later}
 use Rattle.zone_region.proofs.memory.place_of.Goals as goal
 
