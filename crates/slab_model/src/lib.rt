@@ -1,0 +1,4 @@
+//! What a slab pool is, after `ngx_slab.c`, and a plain program that keeps one in lists.
+#![tactic(auto)]
+
+pub mod geometry;
