@@ -1,2 +1,4 @@
 pub mod Geometry
+pub mod Numbers
 pub mod Runs
+pub mod Slab
