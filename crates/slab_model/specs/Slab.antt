@@ -290,6 +290,7 @@ pub record Counts (class : ℕ) (pages : List PageState) (stat : Stat) : Type 0 
   pub total : stat.total ≡ sum_by (usable_in_class class) pages
   pub used : stat.used ≡ sum_by (used_in_class class) pages
   pub fails : stat.fails ≤ stat.reqs
+  pub reqs : stat.reqs < 2 ^ 64
 
 -- the class's list has, each once, just its pages that can grant a block
 pub record Lists (class : ℕ) (pages : List PageState) (listed : List ℕ) : Type 0 where
