@@ -1,7 +1,7 @@
 -- Grant and give back keep a slab sound.
 use Rattle.std.proofs.Common.{ℕ, ◌≡◌, ◌≢◌, ◌⊎◌, ◌+◌, ◌-◌, ◌*◌, ◌/◌, ◌^◌, ◌<◌, ◌≤◌, zero, suc, Bool, true, false, not, ◌&&◌, ◌||◌, List, [], ◌∷◌, Option, Some, None, length, set, get_or, replicate, sym, ap, subst, ◌∙◌, refl, arith, inl, inr, eqb, cond, get_or-set_same, get_or-set_other}
-use Rattle.std.proofs.lemmas.List.{length-set, length-replicate, get_or-replicate}
-use Rattle.std.proofs.lemmas.List.Sums.{sum_by-set}
+use Rattle.std.proofs.lemmas.List.{length-set, length-replicate, get_or-replicate, get_or_past}
+use Rattle.std.proofs.lemmas.List.Sums.{sum_by-set, sum_by-cons, get_or-le-sum_by}
 use Rattle.std.proofs.lemmas.Bool.{cases_Bool, cases_eq, cases_lt, eqb-true, eqb-false}
 use Rattle.std.proofs.lemmas.Grind.{common_steps}
 use Rattle.std.specs.Prelude.{sum_by}
@@ -13,7 +13,7 @@ use Rattle.slab_model.specs.Geometry.{first_index, usable_blocks, blocks_in_page
 use Rattle.slab_model.specs.Numbers.{is_member, IsDistinct, without}
 use Rattle.slab_model.specs.Runs.{AreSound, is_covered, is_within, take_run, give_run, first_fit}
 use Rattle.slab_model.specs.Slab.{Slab, no_stat, page_at, list_of, stat_of, fill_pages, use_pages, is_free, is_full, lowest_unused, used_in, has_room, usable_in_class, used_in_class, AreUsed, HasUsedRuns, Lists, Counts, IsSound, count_grant, count_fail, count_return, one_more, grant, grant_as, grant_run, grant_from_list, grant_in_page, grant_in_new_page, give_back, give_from, give_in_page, give_pages, opened, live_bytes, live_in_page, IsLive, page_number, place_in_page}
-use Rattle.slab_model.proofs.ClassLemmas.{cuts, class_of-some, class_of-none, pages_for-holds}
+use Rattle.slab_model.proofs.ClassLemmas.{cuts, zone, class_of-some, class_of-none, pages_for-holds}
 use Rattle.slab_model.proofs.NumberLemmas.{is_member-without, IsDistinct-without, length-without, without-none}
 use Rattle.slab_model.proofs.RunLemmas.{AreSound-take, AreSound-give, is_covered-take, is_covered-give, first_fit-covered, first_fit-in, IsFree, is_within-in, is_within-not}
 use Rattle.slab_model.proofs.PageLemmas.{NotInRun, Free-NotInRun, Class-NotInRun, HasUsedRuns-set, HasUsedRuns-use, HasUsedRuns-free, length-fill, length-use, page_at-fill_in, page_at-fill_out, page_at-use_out, page_at-use_first, page_at-use_later, Place, place_of}
@@ -455,3 +455,165 @@ IsSound-give_pages slab page count s is =
       where
         inside : (q : ℕ) → is_within q page count ≡ true → is_covered q (give_run (record { first = page; pages = count }) slab.runs) ≡ (is_covered q slab.runs || is_within q page count) → true ≡ is_covered q (give_run (record { first = page; pages = count }) slab.runs)
         inside q n h = grind (arith, common_steps)
+
+-- what a page of the class adds to its statistics
+stat_covers : (slab : Slab) (class page : ℕ) (used : List ℕ) → IsSound slab → class < 9 → page_at slab.pages page ≡ Class class used → (usable_blocks class ≤ (stat_of slab class).total) × (length used ≤ (stat_of slab class).used)
+stat_covers slab class page used s known is =
+    let here : page < length slab.pages = page_at-in slab.pages page (λ e. cc) in
+    let total = get_or-le-sum_by (usable_in_class class) slab.pages page Free here in
+    let count = get_or-le-sum_by (used_in_class class) slab.pages page Free here in
+    let own = ap (usable_in_class class) is ∙ usable-own class used in
+    let own_used = ap (used_in_class class) is ∙ used-own class used in
+    let counts = s.counts class known in
+    (omega (arith, total, own, counts.total), omega (arith, count, own_used, counts.used))
+
+-- the lists once a page that keeps a block has one back
+give_lists : (slab : Slab) (class page : ℕ) (used left : List ℕ) → IsSound slab → class < 9 → page_at slab.pages page ≡ Class class used → is_full class left ≡ false → (full : Bool) → is_full class used ≡ full → ListsChange slab page (Class class left) class (cond full (set slab.lists class (page ∷ list_of slab class)) slab.lists)
+give_lists slab class page used left s known is room true full =
+    let was = s.lists class known in
+    let here : page < length slab.pages = page_at-in slab.pages page (λ e. cc) in
+    let none : is_member page (list_of slab class) ≡ false = was.just page ∙ ap (has_room class) is ∙ has_room-own class used ∙ ap not full in
+    ListsChange-set slab page (Class class left) class (page ∷ list_of slab class) s known
+      (Lists-page class page (Class class left) slab.pages (list_of slab class) (page ∷ list_of slab class) here was (none, was.once) (λ q ne. later q page (list_of slab class) ne) (head page (list_of slab class) ∙ sym (has_room-own class left ∙ ap not room)))
+  where
+    head : (page : ℕ) (rest : List ℕ) → is_member page (page ∷ rest) ≡ true
+    head page rest = grind (arith, common_steps)
+
+    later : (q page : ℕ) (rest : List ℕ) → q ≢ page → is_member q (page ∷ rest) ≡ is_member q rest
+    later q page rest ne = grind (arith, common_steps)
+give_lists slab class page used left s known is room false full =
+    let was = s.lists class known in
+    let here : page < length slab.pages = page_at-in slab.pages page (λ e. cc) in
+    let there : is_member page (list_of slab class) ≡ true = was.just page ∙ ap (has_room class) is ∙ has_room-own class used ∙ ap not full in
+    ListsChange-same slab page (Class class left) class s
+      (Lists-page class page (Class class left) slab.pages (list_of slab class) (list_of slab class) here was was.once (λ q ne. refl) (there ∙ sym (has_room-own class left ∙ ap not room)))
+
+-- a page keeps a block
+give_one : (slab : Slab) (class page index : ℕ) (used left : List ℕ) → IsSound slab → page_at slab.pages page ≡ Class class used → is_member index used ≡ true → without index used ≡ left → 0 < length left → IsSound (one_page slab page (Class class left) slab.runs class (cond (is_full class used) (set slab.lists class (page ∷ list_of slab class)) slab.lists) (count_return 0 (stat_of slab class)))
+give_one slab class page index used left s is there now some =
+    let ok = s.used page class used is in
+    let fewer : length left + 1 ≡ length used = subst (λ (l : List ℕ). length l + 1 ≡ length used) now (length-without index used ok.once there) in
+    let left_ok : AreUsed class left = subst (λ (l : List ℕ). AreUsed class l) now (AreUsed-give class index used ok (subst (λ (l : List ℕ). 0 < length l) (sym now) some)) in
+    let usable = ok.usable index there in
+    let gone : is_member index left ≡ false = subst (λ (l : List ℕ). is_member index l ≡ false) now (gone_from index used) in
+    let room = not_full class index left usable.0 usable.1 gone in
+    let counts = s.counts class ok.known in
+    let covers = stat_covers slab class page used s ok.known is in
+    IsSound-one_page slab page (Class class left) slab.runs class _ (count_return 0 (stat_of slab class)) s
+      (OnePage-class slab class page used left _ (count_return 0 (stat_of slab class)) s is left_ok
+        (give_lists slab class page used left s ok.known is room (is_full class used) refl)
+        (omega arith) (omega (arith, covers.1)) counts.fails counts.reqs)
+  where
+    gone_from : (index : ℕ) (used : List ℕ) → is_member index (without index used) ≡ false
+    gone_from index used = let h = is_member-without index index used in grind (arith, common_steps, h)
+
+-- a page without a block is given back
+give_last : (slab : Slab) (class page index : ℕ) (used : List ℕ) → IsSound slab → page_at slab.pages page ≡ Class class used → is_member index used ≡ true → without index used ≡ [] → IsSound (one_page slab page Free (give_run (record { first = page; pages = 1 }) slab.runs) class (set slab.lists class (without page (list_of slab class))) (count_return (usable_blocks class) (stat_of slab class)))
+give_last slab class page index used s is there now =
+    let total = pages_of slab.bytes in
+    let back : Run = record { first = page; pages = 1 } in
+    let ok = s.used page class used is in
+    let fewer : 1 ≡ length used = subst (λ (l : List ℕ). length l + 1 ≡ length used) now (length-without index used ok.once there) in
+    let here = class_page-in slab class page used s is in
+    let in_pages : page < length slab.pages = omega (arith, s.page_count) in
+    let counts = s.counts class ok.known in
+    let covers = stat_covers slab class page used s ok.known is in
+    let was = s.lists class ok.known in
+    let not_covered : is_covered page slab.runs ≡ false = sym (s.free page here) ∙ ap is_free is in
+    IsSound-one_page slab page Free (give_run back slab.runs) class (set slab.lists class (without page (list_of slab class))) (count_return (usable_blocks class) (stat_of slab class)) s
+      (record {
+        here = here;
+        known = ok.known;
+        old = subst (λ (p : PageState). NotInRun p) (sym is) (Class-NotInRun class used);
+        new = Free-NotInRun;
+        runs_ok = AreSound-give total back slab.runs (omega arith) (omega arith) (λ q low high. only q low high not_covered) s.runs;
+        covered = λ q ne. let h = is_covered-give total q back slab.runs s.runs in covered q ne h;
+        covers = let h = is_covered-give total page back slab.runs s.runs in covers_it h;
+        used = λ own indexes e. absurd (cc);
+        room_before = λ c ne. ap (has_room c) is ∙ room-other c class used ne;
+        room_after = λ c ne. refl;
+        usable_before = λ c ne. ap (usable_in_class c) is ∙ usable-other c class used ne;
+        usable_after = λ c ne. refl;
+        used_before = λ c ne. ap (used_in_class c) is ∙ used-other c class used ne;
+        used_after = λ c ne. refl;
+        lists_ok = ListsChange-set slab page Free class (without page (list_of slab class)) s ok.known (Lists-page class page Free slab.pages (list_of slab class) (without page (list_of slab class)) in_pages was (IsDistinct-without page (list_of slab class) was.once) (λ q ne. kept q (list_of slab class) ne) (gone page (list_of slab class)));
+        total = omega (arith, covers.0, ap (usable_in_class class) is, usable-own class used);
+        used_count = omega (arith, covers.1, fewer, ap (used_in_class class) is, used-own class used);
+        fails = counts.fails;
+        reqs = counts.reqs;
+      })
+  where
+    only : (q : ℕ) → page ≤ q → q < page + 1 → is_covered page slab.runs ≡ false → is_covered q slab.runs ≡ false
+    only q low high h = let e : q ≡ page = omega arith in ap (λ k. is_covered k slab.runs) e ∙ h
+
+    covered : (q : ℕ) → q ≢ page → is_covered q (give_run (record { first = page; pages = 1 }) slab.runs) ≡ (is_covered q slab.runs || is_within q page 1) → is_covered q (give_run (record { first = page; pages = 1 }) slab.runs) ≡ is_covered q slab.runs
+    covered q ne h = let n = is_within-not q page 1 in grind (arith, common_steps, h)
+
+    covers_it : is_covered page (give_run (record { first = page; pages = 1 }) slab.runs) ≡ (is_covered page slab.runs || is_within page page 1) → is_covered page (give_run (record { first = page; pages = 1 }) slab.runs) ≡ true
+    covers_it h = grind (arith, common_steps, h)
+
+    kept : (q : ℕ) (listed : List ℕ) → q ≢ page → is_member q (without page listed) ≡ is_member q listed
+    kept q listed ne = let h = is_member-without q page listed in grind (arith, common_steps, h)
+
+    gone : (q : ℕ) (listed : List ℕ) → is_member q (without q listed) ≡ false
+    gone q listed = let h = is_member-without q q listed in grind (arith, common_steps, h)
+
+pub IsSound-give_in_page : (slab : Slab) (class page index : ℕ) (used left : List ℕ) → IsSound slab → page_at slab.pages page ≡ Class class used → is_member index used ≡ true → without index used ≡ left → IsSound (give_in_page slab page class used left)
+IsSound-give_in_page slab class page index used [] s is there now = give_last slab class page index used s is there now
+IsSound-give_in_page slab class page index used (l ∷ ls) s is there now = give_one slab class page index used (l ∷ ls) s is there now (omega arith)
+
+-- a fresh pool
+pub IsSound-opened : (bytes : ℕ) → 32768 ≤ bytes → bytes ≤ 67108864 → IsSound (opened bytes)
+IsSound-opened bytes large small =
+    let z = zone bytes large small in
+    record {
+      large = large;
+      small = small;
+      page_count = length-replicate (pages_of bytes) Free;
+      list_count = refl;
+      stat_count = refl;
+      runs = (z.pages, omega arith, tt, tt);
+      free = λ q low. ap is_free (all_free q) ∙ covered q low;
+      used_runs = record { followed = λ q n is. absurd (first q n is (all_free q)); belongs = λ q is. absurd (later q is (all_free q)) };
+      used = λ q class used is. absurd (of_class q class used is (all_free q));
+      lists = λ c low. record { once = once c low; just = λ q. none c q low ∙ sym (ap (has_room c) (all_free q)) };
+      counts = λ c low. counts_of c low;
+    } where
+  all_free : (q : ℕ) → page_at (replicate (pages_of bytes) Free) q ≡ Free
+  all_free q = elim (cases_lt q (pages_of bytes)) [
+    | inl l ↦ get_or-replicate (pages_of bytes) q Free Free l
+    | inr past ↦ get_or_past (replicate (pages_of bytes) Free) q Free (omega (arith, length-replicate (pages_of bytes) Free))
+  ]
+
+  covered : (q : ℕ) → q < pages_of bytes → true ≡ is_covered q (record { first = 0; pages = pages_of bytes } ∷ [])
+  covered q low = grind (arith, common_steps)
+
+  first : (q n : ℕ) → page_at (replicate (pages_of bytes) Free) q ≡ First n → page_at (replicate (pages_of bytes) Free) q ≡ Free → ⊥
+  first q n is free = cc
+
+  later : (q : ℕ) → page_at (replicate (pages_of bytes) Free) q ≡ Later → page_at (replicate (pages_of bytes) Free) q ≡ Free → ⊥
+  later q is free = cc
+
+  of_class : (q class : ℕ) (used : List ℕ) → page_at (replicate (pages_of bytes) Free) q ≡ Class class used → page_at (replicate (pages_of bytes) Free) q ≡ Free → ⊥
+  of_class q class used is free = cc
+
+  no_list : (c : ℕ) → c < 9 → get_or {A = List ℕ} (replicate 9 []) c [] ≡ []
+  no_list c low = get_or-replicate 9 c [] [] low
+
+  once : (c : ℕ) → c < 9 → IsDistinct (get_or {A = List ℕ} (replicate 9 []) c [])
+  once c low = subst (λ (l : List ℕ). IsDistinct l) (sym (no_list c low)) tt
+
+  none : (c q : ℕ) → c < 9 → is_member q (get_or {A = List ℕ} (replicate 9 []) c []) ≡ false
+  none c q low = subst (λ (l : List ℕ). is_member q l ≡ false) (sym (no_list c low)) refl
+
+  no_sum : (f : PageState → ℕ) → f Free ≡ 0 → (n : ℕ) → sum_by f (replicate n Free) ≡ 0
+  no_sum f weightless zero = refl
+  no_sum f weightless (suc n) = sum_by-cons f Free (replicate n Free) ∙ omega (arith, weightless, no_sum f weightless n)
+
+  counts_of : (c : ℕ) → c < 9 → Counts c (replicate (pages_of bytes) Free) (get_or (replicate 9 no_stat) c no_stat)
+  counts_of c low = subst (λ (t : Stat). Counts c (replicate (pages_of bytes) Free) t) (sym (get_or-replicate 9 c no_stat no_stat low)) (record {
+    total = sym (no_sum (usable_in_class c) refl (pages_of bytes));
+    used = sym (no_sum (used_in_class c) refl (pages_of bytes));
+    fails = omega arith;
+    reqs = omega arith;
+  })
