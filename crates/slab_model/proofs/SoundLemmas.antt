@@ -133,7 +133,7 @@ IsSound-one_page slab page state runs class lists stat s o = record {
   counts_of : (c : ℕ) → c < 9 → Counts c slab.pages (stat_of slab c) → (c ≡ class) ⊎ (c ≢ class) → Counts c (set slab.pages page state) (stat_of (one_page slab page state runs class lists stat) c)
   counts_of c low was (inl e) =
       subst (λ (k : ℕ). Counts k (set slab.pages page state) (stat_of (one_page slab page state runs class lists stat) k)) (sym e)
-        (subst (λ (t : Stat). Counts class (set slab.pages page state) t) (sym (get_or-set_same slab.stats class stat no_stat in_stats)) (own_counts (s.counts class o.known)))
+      (subst (λ (t : Stat). Counts class (set slab.pages page state) t) (sym (get_or-set_same slab.stats class stat no_stat in_stats)) (own_counts (s.counts class o.known)))
   counts_of c low was (inr ne) = subst (λ (t : Stat). Counts c (set slab.pages page state) t) (sym (get_or-set_other slab.stats class c stat no_stat ne)) (other_counts c ne was)
 
 -- a list of a class is put in its place
@@ -211,14 +211,14 @@ grant_lists : (slab : Slab) (class page : ℕ) (rest now : List ℕ) → IsSound
 grant_lists slab class page rest now s known here listed true full =
     let was : Lists class slab.pages (page ∷ rest) = subst (λ (l : List ℕ). Lists class slab.pages l) listed (s.lists class known) in
     ListsChange-set slab page (Class class now) class rest s known
-      (Lists-page class page (Class class now) slab.pages (page ∷ rest) rest here was was.once.1 (λ q ne. later q page rest ne) (was.once.0 ∙ sym (has_room-own class now ∙ ap not full)))
+    (Lists-page class page (Class class now) slab.pages (page ∷ rest) rest here was was.once.1 (λ q ne. later q page rest ne) (was.once.0 ∙ sym (has_room-own class now ∙ ap not full)))
   where
     later : (q page : ℕ) (rest : List ℕ) → q ≢ page → is_member q rest ≡ is_member q (page ∷ rest)
     later q page rest ne = grind (arith, common_steps)
 grant_lists slab class page rest now s known here listed false full =
     let was = s.lists class known in
     ListsChange-same slab page (Class class now) class s
-      (Lists-page class page (Class class now) slab.pages (list_of slab class) (list_of slab class) here was was.once (λ q ne. refl) (ap (is_member page) listed ∙ head page rest ∙ sym (has_room-own class now ∙ ap not full)))
+    (Lists-page class page (Class class now) slab.pages (list_of slab class) (list_of slab class) here was was.once (λ q ne. refl) (ap (is_member page) listed ∙ head page rest ∙ sym (has_room-own class now ∙ ap not full)))
   where
     head : (page : ℕ) (rest : List ℕ) → is_member page (page ∷ rest) ≡ true
     head page rest = grind (arith, common_steps)
@@ -232,9 +232,9 @@ IsSound-in_page slab class page rest s known listed =
     let here = class_page-in slab class page used s is.0 in
     let counts = s.counts class known in
     IsSound-one_page slab page (Class class now) slab.runs class _ (count_grant 0 (stat_of slab class)) s
-      (OnePage-class slab class page used now _ (count_grant 0 (stat_of slab class)) s is.0 ok
-        (grant_lists slab class page rest now s known (omega (arith, here, s.page_count)) listed (is_full class now) refl)
-        (omega arith) (omega arith) (omega (arith, counts.fails, counts.reqs)) (omega arith))
+    (OnePage-class slab class page used now _ (count_grant 0 (stat_of slab class)) s is.0 ok
+    (grant_lists slab class page rest now s known (omega (arith, here, s.page_count)) listed (is_full class now) refl)
+    (omega arith) (omega arith) (omega (arith, counts.fails, counts.reqs)) (omega arith))
 
 -- a request that fails is counted, and nothing else changes
 pub IsSound-failed : (slab : Slab) (class : ℕ) → IsSound slab → class < 9 → IsSound (grant_in_new_page slab class None).1
@@ -262,7 +262,7 @@ IsSound-failed slab class s known = record {
   counts_of c was (inr ne) = subst (λ (t : Stat). Counts c slab.pages t) (sym (get_or-set_other slab.stats class c (count_fail (stat_of slab class)) no_stat ne)) was
 
 -- the first page of a free run is free
-fit_free : (slab : Slab) (count page q : ℕ) → IsSound slab → first_fit count slab.runs ≡ Some page → page ≤ q → q < page + count → page_at slab.pages q ≡ Free
+pub fit_free : (slab : Slab) (count page q : ℕ) → IsSound slab → first_fit count slab.runs ≡ Some page → page ≤ q → q < page + count → page_at slab.pages q ≡ Free
 fit_free slab count page q s fit low high =
     let within = first_fit-in (pages_of slab.bytes) count slab.runs page s.runs fit in
     is_free-is (page_at slab.pages q) (s.free q (omega arith) ∙ first_fit-covered count slab.runs page q fit low high)
@@ -279,38 +279,38 @@ IsSound-new_page slab class page s known listed fit =
     let counts = s.counts class known in
     let was : Lists class slab.pages [] = subst (λ (l : List ℕ). Lists class slab.pages l) listed (s.lists class known) in
     IsSound-one_page slab page (Class class now) (take_run 1 slab.runs) class (set slab.lists class (page ∷ [])) (count_grant (usable_blocks class) (stat_of slab class)) s
-      (record {
-        here = omega arith;
-        known = known;
-        old = subst (λ (p : PageState). NotInRun p) (sym is) Free-NotInRun;
-        new = Class-NotInRun class now;
-        runs_ok = AreSound-take total 1 slab.runs (omega arith) s.runs;
-        covered = λ q ne. let h = is_covered-take total 1 slab.runs page q s.runs fit in covered q ne h;
-        covers = let h = is_covered-take total 1 slab.runs page page s.runs fit in covers h;
-        used = λ own indexes e. AreUsed-eq own class now indexes e ok;
-        room_before = λ c ne. ap (has_room c) is;
-        room_after = λ c ne. room-other c class now ne;
-        usable_before = λ c ne. ap (usable_in_class c) is;
-        usable_after = λ c ne. usable-other c class now ne;
-        used_before = λ c ne. ap (used_in_class c) is;
-        used_after = λ c ne. used-other c class now ne;
-        lists_ok = ListsChange-set slab page (Class class now) class (page ∷ []) s known (Lists-page class page (Class class now) slab.pages [] (page ∷ []) in_pages was (refl, tt) (λ q ne. alone q ne) (head page [] ∙ sym (has_room-own class now ∙ ap not (not_full-one class (first_index class) known))));
-        total = omega (arith, ap (usable_in_class class) is, usable-own class now);
-        used_count = omega (arith, ap (used_in_class class) is, used-own class now);
-        fails = omega (arith, counts.fails, counts.reqs);
-        reqs = omega arith;
-      }) where
-  head : (page : ℕ) (rest : List ℕ) → is_member page (page ∷ rest) ≡ true
-  head page rest = grind (arith, common_steps)
+    (record {
+      here = omega arith;
+      known = known;
+      old = subst (λ (p : PageState). NotInRun p) (sym is) Free-NotInRun;
+      new = Class-NotInRun class now;
+      runs_ok = AreSound-take total 1 slab.runs (omega arith) s.runs;
+      covered = λ q ne. let h = is_covered-take total 1 slab.runs page q s.runs fit in covered q ne h;
+      covers = let h = is_covered-take total 1 slab.runs page page s.runs fit in covers h;
+      used = λ own indexes e. AreUsed-eq own class now indexes e ok;
+      room_before = λ c ne. ap (has_room c) is;
+      room_after = λ c ne. room-other c class now ne;
+      usable_before = λ c ne. ap (usable_in_class c) is;
+      usable_after = λ c ne. usable-other c class now ne;
+      used_before = λ c ne. ap (used_in_class c) is;
+      used_after = λ c ne. used-other c class now ne;
+      lists_ok = ListsChange-set slab page (Class class now) class (page ∷ []) s known (Lists-page class page (Class class now) slab.pages [] (page ∷ []) in_pages was (refl, tt) (λ q ne. alone q ne) (head page [] ∙ sym (has_room-own class now ∙ ap not (not_full-one class (first_index class) known))));
+      total = omega (arith, ap (usable_in_class class) is, usable-own class now);
+      used_count = omega (arith, ap (used_in_class class) is, used-own class now);
+      fails = omega (arith, counts.fails, counts.reqs);
+      reqs = omega arith;
+    }) where
+      head : (page : ℕ) (rest : List ℕ) → is_member page (page ∷ rest) ≡ true
+      head page rest = grind (arith, common_steps)
 
-  alone : (q : ℕ) → q ≢ page → is_member q (page ∷ []) ≡ false
-  alone q ne = grind (arith, common_steps)
+      alone : (q : ℕ) → q ≢ page → is_member q (page ∷ []) ≡ false
+      alone q ne = grind (arith, common_steps)
 
-  covered : (q : ℕ) → q ≢ page → is_covered q (take_run 1 slab.runs) ≡ (is_covered q slab.runs && not (is_within q page 1)) → is_covered q (take_run 1 slab.runs) ≡ is_covered q slab.runs
-  covered q ne h = grind (arith, common_steps)
+      covered : (q : ℕ) → q ≢ page → is_covered q (take_run 1 slab.runs) ≡ (is_covered q slab.runs && not (is_within q page 1)) → is_covered q (take_run 1 slab.runs) ≡ is_covered q slab.runs
+      covered q ne h = grind (arith, common_steps)
 
-  covers : is_covered page (take_run 1 slab.runs) ≡ (is_covered page slab.runs && not (is_within page page 1)) → is_covered page (take_run 1 slab.runs) ≡ false
-  covers h = grind (arith, common_steps)
+      covers : is_covered page (take_run 1 slab.runs) ≡ (is_covered page slab.runs && not (is_within page page 1)) → is_covered page (take_run 1 slab.runs) ≡ false
+      covers h = grind (arith, common_steps)
 
 -- a slab whose used or freed run has changed the pages, which are in no class
 record SamePages (pages changed : List PageState) : Type 0 where
@@ -382,8 +382,8 @@ SamePages-use : (page count : ℕ) (pages : List PageState) → 0 < count → pa
 SamePages-use page count pages some room free =
     let first : List PageState = set pages page (First count) in
     SamePages-trans pages first (use_pages page count pages)
-      (SamePages-fill (First count) page 1 pages (omega arith) (NoClass-first count) (λ q low high. subst (λ (p : PageState). NoClass p) (sym (free q low (omega arith))) NoClass-free))
-      (SamePages-fill Later (page + 1) (count - 1) first (omega (arith, length-set pages page (First count))) NoClass-later (λ q low high. subst (λ (p : PageState). NoClass p) (sym (kept q low ∙ free q (omega arith) (omega arith))) NoClass-free))
+    (SamePages-fill (First count) page 1 pages (omega arith) (NoClass-first count) (λ q low high. subst (λ (p : PageState). NoClass p) (sym (free q low (omega arith))) NoClass-free))
+    (SamePages-fill Later (page + 1) (count - 1) first (omega (arith, length-set pages page (First count))) NoClass-later (λ q low high. subst (λ (p : PageState). NoClass p) (sym (kept q low ∙ free q (omega arith) (omega arith))) NoClass-free))
   where
     kept : (q : ℕ) → page + 1 ≤ q → page_at (set pages page (First count)) q ≡ page_at pages q
     kept q low = let ne : q ≢ page = λ e. absurd (omega arith) in get_or-set_other pages page q (First count) Free ne
@@ -395,10 +395,10 @@ IsSound-run slab count page s some fit =
     let within = first_fit-in total count slab.runs page s.runs fit in
     let free = λ (q : ℕ) (low : page ≤ q) (high : q < page + count). fit_free slab count page q s fit low high in
     IsSound-pages slab (use_pages page count slab.pages) (take_run count slab.runs) s
-      (SamePages-use page count slab.pages some (omega (arith, s.page_count)) free)
-      (AreSound-take total count slab.runs some s.runs)
-      (λ q low. covered q low (place_of q page count))
-      (HasUsedRuns-use total page count slab.pages s.page_count some (omega arith) free s.used_runs)
+    (SamePages-use page count slab.pages some (omega (arith, s.page_count)) free)
+    (AreSound-take total count slab.runs some s.runs)
+    (λ q low. covered q low (place_of q page count))
+    (HasUsedRuns-use total page count slab.pages s.page_count some (omega arith) free s.used_runs)
   where
     outside : (q : ℕ) → (q < page) ⊎ (page + count ≤ q) → is_covered q (take_run count slab.runs) ≡ is_covered q slab.runs
     outside q o = let h = is_covered-take (pages_of slab.bytes) count slab.runs page q s.runs fit in let n = is_within-not q page count o in grind (arith, common_steps, h, n)
@@ -431,10 +431,10 @@ IsSound-give_pages slab page count s is =
     let run = s.used_runs.followed page count is in
     let back : Run = record { first = page; pages = count } in
     IsSound-pages slab (fill_pages Free page count slab.pages) (give_run back slab.runs) s
-      (SamePages-fill Free page count slab.pages (omega (arith, run.1, s.page_count)) NoClass-free (λ q low high. old q low high (cases_eq q page)))
-      (AreSound-give total back slab.runs run.0 run.1 (λ q low high. run_not_covered slab page count q s is low high) s.runs)
-      (λ q low. covered q low (place_of q page count))
-      (HasUsedRuns-free total page count slab.pages s.page_count is s.used_runs)
+    (SamePages-fill Free page count slab.pages (omega (arith, run.1, s.page_count)) NoClass-free (λ q low high. old q low high (cases_eq q page)))
+    (AreSound-give total back slab.runs run.0 run.1 (λ q low high. run_not_covered slab page count q s is low high) s.runs)
+    (λ q low. covered q low (place_of q page count))
+    (HasUsedRuns-free total page count slab.pages s.page_count is s.used_runs)
   where
     old : (q : ℕ) → page ≤ q → q < page + count → (q ≡ page) ⊎ (q ≢ page) → NoClass (page_at slab.pages q)
     old q low high (inl e) = subst (λ (p : PageState). NoClass p) (sym (ap (λ k. page_at slab.pages k) e ∙ is)) (NoClass-first count)
@@ -474,7 +474,7 @@ give_lists slab class page used left s known is room true full =
     let here : page < length slab.pages = page_at-in slab.pages page (λ e. cc) in
     let none : is_member page (list_of slab class) ≡ false = was.just page ∙ ap (has_room class) is ∙ has_room-own class used ∙ ap not full in
     ListsChange-set slab page (Class class left) class (page ∷ list_of slab class) s known
-      (Lists-page class page (Class class left) slab.pages (list_of slab class) (page ∷ list_of slab class) here was (none, was.once) (λ q ne. later q page (list_of slab class) ne) (head page (list_of slab class) ∙ sym (has_room-own class left ∙ ap not room)))
+    (Lists-page class page (Class class left) slab.pages (list_of slab class) (page ∷ list_of slab class) here was (none, was.once) (λ q ne. later q page (list_of slab class) ne) (head page (list_of slab class) ∙ sym (has_room-own class left ∙ ap not room)))
   where
     head : (page : ℕ) (rest : List ℕ) → is_member page (page ∷ rest) ≡ true
     head page rest = grind (arith, common_steps)
@@ -486,7 +486,7 @@ give_lists slab class page used left s known is room false full =
     let here : page < length slab.pages = page_at-in slab.pages page (λ e. cc) in
     let there : is_member page (list_of slab class) ≡ true = was.just page ∙ ap (has_room class) is ∙ has_room-own class used ∙ ap not full in
     ListsChange-same slab page (Class class left) class s
-      (Lists-page class page (Class class left) slab.pages (list_of slab class) (list_of slab class) here was was.once (λ q ne. refl) (there ∙ sym (has_room-own class left ∙ ap not room)))
+    (Lists-page class page (Class class left) slab.pages (list_of slab class) (list_of slab class) here was was.once (λ q ne. refl) (there ∙ sym (has_room-own class left ∙ ap not room)))
 
 -- a page keeps a block
 give_one : (slab : Slab) (class page index : ℕ) (used left : List ℕ) → IsSound slab → page_at slab.pages page ≡ Class class used → is_member index used ≡ true → without index used ≡ left → 0 < length left → IsSound (one_page slab page (Class class left) slab.runs class (cond (is_full class used) (set slab.lists class (page ∷ list_of slab class)) slab.lists) (count_return 0 (stat_of slab class)))
@@ -500,9 +500,9 @@ give_one slab class page index used left s is there now some =
     let counts = s.counts class ok.known in
     let covers = stat_covers slab class page used s ok.known is in
     IsSound-one_page slab page (Class class left) slab.runs class _ (count_return 0 (stat_of slab class)) s
-      (OnePage-class slab class page used left _ (count_return 0 (stat_of slab class)) s is left_ok
-        (give_lists slab class page used left s ok.known is room (is_full class used) refl)
-        (omega arith) (omega (arith, covers.1)) counts.fails counts.reqs)
+    (OnePage-class slab class page used left _ (count_return 0 (stat_of slab class)) s is left_ok
+    (give_lists slab class page used left s ok.known is room (is_full class used) refl)
+    (omega arith) (omega (arith, covers.1)) counts.fails counts.reqs)
   where
     gone_from : (index : ℕ) (used : List ℕ) → is_member index (without index used) ≡ false
     gone_from index used = let h = is_member-without index index used in grind (arith, common_steps, h)
@@ -521,27 +521,27 @@ give_last slab class page index used s is there now =
     let was = s.lists class ok.known in
     let not_covered : is_covered page slab.runs ≡ false = sym (s.free page here) ∙ ap is_free is in
     IsSound-one_page slab page Free (give_run back slab.runs) class (set slab.lists class (without page (list_of slab class))) (count_return (usable_blocks class) (stat_of slab class)) s
-      (record {
-        here = here;
-        known = ok.known;
-        old = subst (λ (p : PageState). NotInRun p) (sym is) (Class-NotInRun class used);
-        new = Free-NotInRun;
-        runs_ok = AreSound-give total back slab.runs (omega arith) (omega arith) (λ q low high. only q low high not_covered) s.runs;
-        covered = λ q ne. let h = is_covered-give total q back slab.runs s.runs in covered q ne h;
-        covers = let h = is_covered-give total page back slab.runs s.runs in covers_it h;
-        used = λ own indexes e. absurd (cc);
-        room_before = λ c ne. ap (has_room c) is ∙ room-other c class used ne;
-        room_after = λ c ne. refl;
-        usable_before = λ c ne. ap (usable_in_class c) is ∙ usable-other c class used ne;
-        usable_after = λ c ne. refl;
-        used_before = λ c ne. ap (used_in_class c) is ∙ used-other c class used ne;
-        used_after = λ c ne. refl;
-        lists_ok = ListsChange-set slab page Free class (without page (list_of slab class)) s ok.known (Lists-page class page Free slab.pages (list_of slab class) (without page (list_of slab class)) in_pages was (IsDistinct-without page (list_of slab class) was.once) (λ q ne. kept q (list_of slab class) ne) (gone page (list_of slab class)));
-        total = omega (arith, covers.0, ap (usable_in_class class) is, usable-own class used);
-        used_count = omega (arith, covers.1, fewer, ap (used_in_class class) is, used-own class used);
-        fails = counts.fails;
-        reqs = counts.reqs;
-      })
+    (record {
+      here = here;
+      known = ok.known;
+      old = subst (λ (p : PageState). NotInRun p) (sym is) (Class-NotInRun class used);
+      new = Free-NotInRun;
+      runs_ok = AreSound-give total back slab.runs (omega arith) (omega arith) (λ q low high. only q low high not_covered) s.runs;
+      covered = λ q ne. let h = is_covered-give total q back slab.runs s.runs in covered q ne h;
+      covers = let h = is_covered-give total page back slab.runs s.runs in covers_it h;
+      used = λ own indexes e. absurd (cc);
+      room_before = λ c ne. ap (has_room c) is ∙ room-other c class used ne;
+      room_after = λ c ne. refl;
+      usable_before = λ c ne. ap (usable_in_class c) is ∙ usable-other c class used ne;
+      usable_after = λ c ne. refl;
+      used_before = λ c ne. ap (used_in_class c) is ∙ used-other c class used ne;
+      used_after = λ c ne. refl;
+      lists_ok = ListsChange-set slab page Free class (without page (list_of slab class)) s ok.known (Lists-page class page Free slab.pages (list_of slab class) (without page (list_of slab class)) in_pages was (IsDistinct-without page (list_of slab class) was.once) (λ q ne. kept q (list_of slab class) ne) (gone page (list_of slab class)));
+      total = omega (arith, covers.0, ap (usable_in_class class) is, usable-own class used);
+      used_count = omega (arith, covers.1, fewer, ap (used_in_class class) is, used-own class used);
+      fails = counts.fails;
+      reqs = counts.reqs;
+    })
   where
     only : (q : ℕ) → page ≤ q → q < page + 1 → is_covered page slab.runs ≡ false → is_covered q slab.runs ≡ false
     only q low high h = let e : q ≡ page = omega arith in ap (λ k. is_covered k slab.runs) e ∙ h
@@ -579,41 +579,41 @@ IsSound-opened bytes large small =
       lists = λ c low. record { once = once c low; just = λ q. none c q low ∙ sym (ap (has_room c) (all_free q)) };
       counts = λ c low. counts_of c low;
     } where
-  all_free : (q : ℕ) → page_at (replicate (pages_of bytes) Free) q ≡ Free
-  all_free q = elim (cases_lt q (pages_of bytes)) [
-    | inl l ↦ get_or-replicate (pages_of bytes) q Free Free l
-    | inr past ↦ get_or_past (replicate (pages_of bytes) Free) q Free (omega (arith, length-replicate (pages_of bytes) Free))
-  ]
+      all_free : (q : ℕ) → page_at (replicate (pages_of bytes) Free) q ≡ Free
+      all_free q = elim (cases_lt q (pages_of bytes)) [
+        | inl l ↦ get_or-replicate (pages_of bytes) q Free Free l
+        | inr past ↦ get_or_past (replicate (pages_of bytes) Free) q Free (omega (arith, length-replicate (pages_of bytes) Free))
+      ]
 
-  covered : (q : ℕ) → q < pages_of bytes → true ≡ is_covered q (record { first = 0; pages = pages_of bytes } ∷ [])
-  covered q low = grind (arith, common_steps)
+      covered : (q : ℕ) → q < pages_of bytes → true ≡ is_covered q (record { first = 0; pages = pages_of bytes } ∷ [])
+      covered q low = grind (arith, common_steps)
 
-  first : (q n : ℕ) → page_at (replicate (pages_of bytes) Free) q ≡ First n → page_at (replicate (pages_of bytes) Free) q ≡ Free → ⊥
-  first q n is free = cc
+      first : (q n : ℕ) → page_at (replicate (pages_of bytes) Free) q ≡ First n → page_at (replicate (pages_of bytes) Free) q ≡ Free → ⊥
+      first q n is free = cc
 
-  later : (q : ℕ) → page_at (replicate (pages_of bytes) Free) q ≡ Later → page_at (replicate (pages_of bytes) Free) q ≡ Free → ⊥
-  later q is free = cc
+      later : (q : ℕ) → page_at (replicate (pages_of bytes) Free) q ≡ Later → page_at (replicate (pages_of bytes) Free) q ≡ Free → ⊥
+      later q is free = cc
 
-  of_class : (q class : ℕ) (used : List ℕ) → page_at (replicate (pages_of bytes) Free) q ≡ Class class used → page_at (replicate (pages_of bytes) Free) q ≡ Free → ⊥
-  of_class q class used is free = cc
+      of_class : (q class : ℕ) (used : List ℕ) → page_at (replicate (pages_of bytes) Free) q ≡ Class class used → page_at (replicate (pages_of bytes) Free) q ≡ Free → ⊥
+      of_class q class used is free = cc
 
-  no_list : (c : ℕ) → c < 9 → get_or {A = List ℕ} (replicate 9 []) c [] ≡ []
-  no_list c low = get_or-replicate 9 c [] [] low
+      no_list : (c : ℕ) → c < 9 → get_or {A = List ℕ} (replicate 9 []) c [] ≡ []
+      no_list c low = get_or-replicate 9 c [] [] low
 
-  once : (c : ℕ) → c < 9 → IsDistinct (get_or {A = List ℕ} (replicate 9 []) c [])
-  once c low = subst (λ (l : List ℕ). IsDistinct l) (sym (no_list c low)) tt
+      once : (c : ℕ) → c < 9 → IsDistinct (get_or {A = List ℕ} (replicate 9 []) c [])
+      once c low = subst (λ (l : List ℕ). IsDistinct l) (sym (no_list c low)) tt
 
-  none : (c q : ℕ) → c < 9 → is_member q (get_or {A = List ℕ} (replicate 9 []) c []) ≡ false
-  none c q low = subst (λ (l : List ℕ). is_member q l ≡ false) (sym (no_list c low)) refl
+      none : (c q : ℕ) → c < 9 → is_member q (get_or {A = List ℕ} (replicate 9 []) c []) ≡ false
+      none c q low = subst (λ (l : List ℕ). is_member q l ≡ false) (sym (no_list c low)) refl
 
-  no_sum : (f : PageState → ℕ) → f Free ≡ 0 → (n : ℕ) → sum_by f (replicate n Free) ≡ 0
-  no_sum f weightless zero = refl
-  no_sum f weightless (suc n) = sum_by-cons f Free (replicate n Free) ∙ omega (arith, weightless, no_sum f weightless n)
+      no_sum : (f : PageState → ℕ) → f Free ≡ 0 → (n : ℕ) → sum_by f (replicate n Free) ≡ 0
+      no_sum f weightless zero = refl
+      no_sum f weightless (suc n) = sum_by-cons f Free (replicate n Free) ∙ omega (arith, weightless, no_sum f weightless n)
 
-  counts_of : (c : ℕ) → c < 9 → Counts c (replicate (pages_of bytes) Free) (get_or (replicate 9 no_stat) c no_stat)
-  counts_of c low = subst (λ (t : Stat). Counts c (replicate (pages_of bytes) Free) t) (sym (get_or-replicate 9 c no_stat no_stat low)) (record {
-    total = sym (no_sum (usable_in_class c) refl (pages_of bytes));
-    used = sym (no_sum (used_in_class c) refl (pages_of bytes));
-    fails = omega arith;
-    reqs = omega arith;
-  })
+      counts_of : (c : ℕ) → c < 9 → Counts c (replicate (pages_of bytes) Free) (get_or (replicate 9 no_stat) c no_stat)
+      counts_of c low = subst (λ (t : Stat). Counts c (replicate (pages_of bytes) Free) t) (sym (get_or-replicate 9 c no_stat no_stat low)) (record {
+        total = sym (no_sum (usable_in_class c) refl (pages_of bytes));
+        used = sym (no_sum (used_in_class c) refl (pages_of bytes));
+        fails = omega arith;
+        reqs = omega arith;
+      })

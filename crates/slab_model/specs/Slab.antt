@@ -210,6 +210,14 @@ fits_as slab size (Some class) = not (is_empty (list_of slab class)) || is_some 
 unfoldable pub fits : Slab → ℕ → Bool
 fits slab size = fits_as slab size (class_of size)
 
+-- the bytes of a block that a request of `size` bytes is given
+abbrev pub block_bytes_as : ℕ → Option ℕ → ℕ
+block_bytes_as size None = page_size * pages_for size
+block_bytes_as size (Some class) = class_size class
+
+unfoldable pub block_bytes : ℕ → ℕ
+block_bytes size = block_bytes_as size (class_of size)
+
 -- ---- give back
 
 -- a used run comes back whole
