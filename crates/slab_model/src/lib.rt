@@ -2,4 +2,7 @@
 #![tactic(auto)]
 
 pub mod geometry;
+pub mod numbers;
+pub mod page;
 pub mod runs;
+pub mod stat;

@@ -1,0 +1,105 @@
+-- The laws of the slab.
+use Rattle.std.proofs.Common.{ℕ, ◌≡◌, ◌≢◌, ◌⊎◌, ◌+◌, ◌-◌, ◌*◌, ◌/◌, ◌%◌, ◌<◌, ◌≤◌, zero, suc, Bool, true, false, not, ◌&&◌, ◌||◌, List, [], ◌∷◌, Option, Some, None, length, set, get_or, replicate, sym, ap, subst, ◌∙◌, refl, arith, inl, inr, eqb, cond, get_or-set_same, get_or-set_other}
+use Rattle.std.specs.Prelude.{is_some, count_by}
+use Rattle.std.proofs.Math.Nat.{mul-le-mul_left}
+use Rattle.std.proofs.lemmas.Nat.{div-mul-add}
+use Rattle.std.proofs.lemmas.List.{length-set, length-replicate, get_or-replicate, get_or_past}
+use Rattle.std.proofs.lemmas.List.Sums.{sum_by-cons}
+use Rattle.std.proofs.lemmas.Bool.{cases_Bool, cases_eq, cases_lt, cases_order, eqb-true, eqb-false}
+use Rattle.std.proofs.lemmas.Grind.{common_steps}
+use Rattle.slab_model.specs.declared.runs.Run.{Run}
+use Rattle.slab_model.specs.declared.page.PageState.{PageState}
+use Rattle.slab_model.specs.declared.page.PageState.TheVariants.{Free, First, Later, Class}
+use Rattle.slab_model.specs.Geometry.{page_size, start_of, pages_of, page_offset, block_offset, class_size, class_of, pages_for, blocks_in_page, first_index, usable_blocks}
+use Rattle.slab_model.specs.Numbers.{is_member, without}
+use Rattle.slab_model.specs.Runs.{AreSound, is_covered, is_within, page_total, first_fit, take_run, give_run}
+use Rattle.slab_model.specs.Slab.{Slab, page_at, list_of, stat_of, opened, live_bytes, live_in_page, IsLive, page_number, place_in_page, AreUsed, IsSound, HasUsedRuns, fill_pages, use_pages, is_free, is_full, lowest_unused, used_in, block_bytes, block_bytes_as, grant, grant_as, grant_run, grant_from_list, grant_in_page, grant_in_new_page, give_back, give_from, give_in_page, give_pages, fits, fits_as, is_empty, free_pages, used_pages, count_grant, count_return}
+use Rattle.slab_model.specs.Laws.{AreDisjoint, LiesInPages, Grants, Returns, SameBlocks, OpenedLaw, GrantSoundLaw, ReturnSoundLaw, GrantLaw, NoGrantLaw, ReturnLaw, BlocksLaw, PagesLaw, RoundTripLaw, FitsLaw}
+use Rattle.slab_model.proofs.ClassLemmas.{cuts, zone, class_of-some, class_of-none, pages_for-holds}
+use Rattle.slab_model.proofs.NumberLemmas.{is_member-without, without-none}
+use Rattle.slab_model.proofs.RunLemmas.{page_total-take, page_total-give, AreSound-take, first_fit-in}
+use Rattle.slab_model.proofs.PageLemmas.{Place, place_of, page_at-fill_in, page_at-fill_out, page_at-use_out, page_at-use_first, page_at-use_later}
+use Rattle.slab_model.proofs.PageLemmas.Place.{out, within}
+use Rattle.slab_model.proofs.StateLemmas.{is_free-is, page_at-in, lowest-in, AreUsed-grant}
+use Rattle.slab_model.proofs.SoundLemmas.{IsSound-opened, IsSound-in_page, IsSound-failed, IsSound-new_page, IsSound-run, IsSound-give_pages, IsSound-give_in_page, listed-is, fit_free, class_page-in}
+use Rattle.slab_model.proofs.BlockLemmas.{offset_is, page_number-is, place_in_page-is, live_bytes-low, live_bytes-in, live_bytes-at, live_of, live_not, live_more, live_less, live_none, block_end, Lies, lies}
+use Rattle.slab_model.proofs.BlockLemmas.Lies.{in_page, over_pages}
+
+-- ---- grant keeps soundness
+
+grant_from_list-sound : (slab : Slab) (class : ℕ) → IsSound slab → class < 9 → (listed : List ℕ) → list_of slab class ≡ listed → IsSound (grant_from_list slab class listed).1
+grant_from_list-sound slab class s known (page ∷ rest) is = IsSound-in_page slab class page rest s known is
+grant_from_list-sound slab class s known [] is = new_page (first_fit 1 slab.runs) refl where
+  new_page : (fit : Option ℕ) → first_fit 1 slab.runs ≡ fit → IsSound (grant_in_new_page slab class fit).1
+  new_page None fit = IsSound-failed slab class s known
+  new_page (Some page) fit = IsSound-new_page slab class page s known is fit
+
+grant_run-sound : (slab : Slab) (count : ℕ) → IsSound slab → 0 < count → (fit : Option ℕ) → first_fit count slab.runs ≡ fit → IsSound (grant_run slab count fit).1
+grant_run-sound slab count s some None fit = s
+grant_run-sound slab count s some (Some page) fit = IsSound-run slab count page s some fit
+
+grant_as-sound : (slab : Slab) (size : ℕ) → IsSound slab → 0 < size → (class : Option ℕ) → class_of size ≡ class → IsSound (grant_as slab size class).1
+grant_as-sound slab size s some None is = grant_run-sound slab (pages_for size) s (pages_for-holds size some).0 (first_fit (pages_for size) slab.runs) refl
+grant_as-sound slab size s some (Some class) is = grant_from_list-sound slab class s (class_of-some size class is).0 (list_of slab class) refl
+
+pub grant-sound : GrantSoundLaw
+unfolding grant
+grant-sound slab size s some = grant_as-sound slab size s some (class_of size) refl
+
+-- ---- give back keeps soundness
+
+-- what is given back, read off where a live block lies
+pub give_back-class : (slab : Slab) (page class index : ℕ) (used : List ℕ) → page_at slab.pages page ≡ Class class used → AreUsed class used → is_member index used ≡ true → give_back slab (block_offset slab.bytes page class index) ≡ give_in_page slab page class used (without index used)
+unfolding give_back
+give_back-class slab page class index used is ok there =
+    let c = cuts class ok.known in
+    let end = block_end (class_size class) index (blocks_in_page class) c.whole (ok.usable index there).1 in
+    let place : class_size class * index < 4096 = omega (arith, c.some) in
+    ap (λ n. give_from slab n (place_in_page slab.bytes (block_offset slab.bytes page class index)) (page_at slab.pages n)) (page_number-is slab.bytes page (class_size class * index) place)
+    ∙ ap (λ n. give_from slab page n (page_at slab.pages page)) (place_in_page-is slab.bytes page (class_size class * index) place)
+    ∙ ap (λ t. give_from slab page (class_size class * index) t) is
+    ∙ ap (λ n. give_in_page slab page class used (without n used)) (own (class_size class) index c.some)
+  where
+    own : (size index : ℕ) → 0 < size → (size * index) / size ≡ index
+    own size index some = let h = div-mul-add index size 0 some in grind (arith, common_steps, h)
+
+pub give_back-run : (slab : Slab) (page count : ℕ) → page_at slab.pages page ≡ First count → give_back slab (page_offset slab.bytes page) ≡ give_pages slab page count
+unfolding give_back
+give_back-run slab page count is =
+    ap (λ n. give_from slab n (place_in_page slab.bytes (page_offset slab.bytes page)) (page_at slab.pages n)) (number slab.bytes page)
+    ∙ ap (λ t. give_from slab page (place_in_page slab.bytes (page_offset slab.bytes page)) t) is
+  where
+    number : (bytes page : ℕ) → page_number bytes (page_offset bytes page) ≡ page
+    number bytes page = omega arith
+
+give_back-sound_at : (slab : Slab) (at : ℕ) → IsSound slab → Lies slab at → IsSound (give_back slab at)
+give_back-sound_at slab at s (in_page page class used index is ok there at_is bytes) =
+    subst (λ (a : ℕ). IsSound (give_back slab a)) (sym at_is)
+    (subst (λ (t : Slab). IsSound t) (sym (give_back-class slab page class index used is ok there)) (IsSound-give_in_page slab class page index used (without index used) s is there refl))
+give_back-sound_at slab at s (over_pages page count is at_is bytes) =
+    subst (λ (a : ℕ). IsSound (give_back slab a)) (sym at_is)
+    (subst (λ (t : Slab). IsSound t) (sym (give_back-run slab page count is)) (IsSound-give_pages slab page count s is))
+
+pub give_back-sound : ReturnSoundLaw
+give_back-sound slab at s live = give_back-sound_at slab at s (lies slab at s live)
+
+-- ---- fits
+
+fits_list : (slab : Slab) (class : ℕ) (listed : List ℕ) → (not (is_empty listed) || is_some (first_fit 1 slab.runs)) ≡ is_some (grant_from_list slab class listed).0
+fits_list slab class [] = new_page (first_fit 1 slab.runs) where
+  new_page : (fit : Option ℕ) → is_some fit ≡ is_some (grant_in_new_page slab class fit).0
+  new_page None = refl
+  new_page (Some page) = refl
+fits_list slab class (page ∷ rest) = refl
+
+fits_run : (slab : Slab) (count : ℕ) (fit : Option ℕ) → is_some fit ≡ is_some (grant_run slab count fit).0
+fits_run slab count None = refl
+fits_run slab count (Some page) = refl
+
+fits_class : (slab : Slab) (size : ℕ) (class : Option ℕ) → fits_as slab size class ≡ is_some (grant_as slab size class).0
+fits_class slab size None = fits_run slab (pages_for size) (first_fit (pages_for size) slab.runs)
+fits_class slab size (Some class) = fits_list slab class (list_of slab class)
+
+pub fits-grant : FitsLaw
+unfolding fits grant
+fits-grant slab size = fits_class slab size (class_of size)

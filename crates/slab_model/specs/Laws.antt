@@ -1,0 +1,75 @@
+-- What holds of every sound slab, and of a grant and a return there.
+use Rattle.std.specs.Prelude.{ℕ, ◌≡◌, ◌≢◌, ◌+◌, ◌*◌, ◌%◌, ◌<◌, ◌≤◌, ◌⊎◌, Option, Some, None, is_some, sum_by}
+use Rattle.slab_model.specs.Geometry.{least_zone, greatest_zone, start_of, pages_of, page_offset, class_count, class_of, usable_blocks}
+use Rattle.slab_model.specs.Slab.{Slab, opened, grant, give_back, fits, block_bytes, live_bytes, IsLive, IsSound, free_pages, used_pages, stat_of, one_more}
+
+-- ---- the live blocks
+
+-- no two live blocks share a byte
+abbrev pub AreDisjoint : Slab → Type 0
+AreDisjoint slab = (a b : ℕ) → IsLive slab a → IsLive slab b → a ≢ b → (a + live_bytes slab a ≤ b) ⊎ (b + live_bytes slab b ≤ a)
+
+-- a live block lies within the pages, at a multiple of 8
+pub record LiesInPages (slab : Slab) (at : ℕ) : Type 0 where
+  pub low : start_of slab.bytes ≤ at
+  pub high : at + live_bytes slab at ≤ page_offset slab.bytes (pages_of slab.bytes)
+  pub even : at % 8 ≡ 0
+  pub words : live_bytes slab at % 8 ≡ 0
+
+-- the block at `at` is new, it has the bytes that a request of `size` is given, and every other block is as before
+pub record Grants (old new : Slab) (size at : ℕ) : Type 0 where
+  pub fresh : live_bytes old at ≡ 0
+  pub bytes : live_bytes new at ≡ block_bytes size
+  pub others : (other : ℕ) → other ≢ at → live_bytes new other ≡ live_bytes old other
+
+-- no block is live at `at` any more, and every other block is as before
+pub record Returns (old new : Slab) (at : ℕ) : Type 0 where
+  pub gone : live_bytes new at ≡ 0
+  pub others : (other : ℕ) → other ≢ at → live_bytes new other ≡ live_bytes old other
+
+-- the second slab has the live blocks and the number of free pages of the first
+pub record SameBlocks (old new : Slab) : Type 0 where
+  pub blocks : (at : ℕ) → live_bytes new at ≡ live_bytes old at
+  pub free : free_pages new ≡ free_pages old
+
+-- ---- the laws
+
+-- a fresh pool is sound and has no live block
+abbrev pub OpenedLaw : Type 0
+OpenedLaw = (bytes : ℕ) → least_zone ≤ bytes → bytes ≤ greatest_zone → IsSound (opened bytes) × ((at : ℕ) → live_bytes (opened bytes) at ≡ 0)
+
+-- a grant keeps a slab sound
+abbrev pub GrantSoundLaw : Type 0
+GrantSoundLaw = (slab : Slab) (size : ℕ) → IsSound slab → 0 < size → IsSound (grant slab size).1
+
+-- a return keeps a slab sound
+abbrev pub ReturnSoundLaw : Type 0
+ReturnSoundLaw = (slab : Slab) (at : ℕ) → IsSound slab → IsLive slab at → IsSound (give_back slab at)
+
+-- a grant adds one block, and is large enough
+abbrev pub GrantLaw : Type 0
+GrantLaw = (slab : Slab) (size at : ℕ) → IsSound slab → 0 < size → (grant slab size).0 ≡ Some at → Grants slab (grant slab size).1 size at × (size ≤ block_bytes size)
+
+-- a grant that gives no block changes no block
+abbrev pub NoGrantLaw : Type 0
+NoGrantLaw = (slab : Slab) (size : ℕ) → (grant slab size).0 ≡ None → SameBlocks slab (grant slab size).1
+
+-- a return takes one block away
+abbrev pub ReturnLaw : Type 0
+ReturnLaw = (slab : Slab) (at : ℕ) → IsSound slab → IsLive slab at → Returns slab (give_back slab at) at
+
+-- live blocks share no byte, and lie within the pages
+abbrev pub BlocksLaw : Type 0
+BlocksLaw = (slab : Slab) → IsSound slab → AreDisjoint slab × ((at : ℕ) → IsLive slab at → LiesInPages slab at)
+
+-- free and used pages are all pages
+abbrev pub PagesLaw : Type 0
+PagesLaw = (slab : Slab) → IsSound slab → free_pages slab + used_pages slab ≡ pages_of slab.bytes
+
+-- what was just granted and comes back leaves the live blocks and the number of free pages as they were
+abbrev pub RoundTripLaw : Type 0
+RoundTripLaw = (slab : Slab) (size at : ℕ) → IsSound slab → 0 < size → (grant slab size).0 ≡ Some at → SameBlocks slab (give_back (grant slab size).1 at)
+
+-- a request is given a block exactly where it fits
+abbrev pub FitsLaw : Type 0
+FitsLaw = (slab : Slab) (size : ℕ) → fits slab size ≡ is_some (grant slab size).0
