@@ -1,0 +1,3 @@
+pub mod CrcLemmas
+pub mod WordLemmas
+pub mod OrderLemmas
