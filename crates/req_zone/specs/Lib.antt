@@ -1,0 +1,9 @@
+pub mod Amount
+pub mod Table
+pub mod Memory
+pub mod Expiry
+pub mod Calls
+pub mod Step
+pub mod Places
+pub mod Opening
+pub mod Geometry
