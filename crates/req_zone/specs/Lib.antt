@@ -6,4 +6,4 @@ pub mod Calls
 pub mod Step
 pub mod Places
 pub mod Opening
-pub mod Geometry
+pub mod Leaving

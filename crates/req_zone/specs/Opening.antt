@@ -1,6 +1,6 @@
 -- When a zone can't be opened.
 use Rattle.std.specs.Prelude.{ℕ, ◌<◌}
-use Rattle.req_zone.specs.Geometry.{least_zone}
+use Rattle.slab_model.specs.Geometry.{least_zone}
 use Rattle.req_zone.specs.declared.errors.OpenFault.{OpenFault}
 use Rattle.req_zone.specs.declared.errors.OpenFault.TheVariants.{TooSmall, NoMemory}
 

@@ -1,9 +1,9 @@
 -- A zone whose nodes all take one kind of block, so that its memory is the number of free places.
-use Rattle.std.specs.Prelude.{ℕ, ◌+◌, ◌-◌, ◌*◌, ◌≡◌, ◌≤◌, ◌<◌, nat_eq, List, [], Option, Some, None, if◌then◌else◌}
+use Rattle.std.specs.Prelude.{ℕ, ◌+◌, ◌-◌, ◌*◌, ◌≡◌, nat_eq, [], Some, None, if◌then◌else◌}
 use Rattle.req_zone.specs.Memory.{Memory, State}
 use Rattle.req_zone.specs.Calls.{Call, Reply}
 use Rattle.req_zone.specs.Step.{step}
-use Rattle.req_zone.specs.Geometry.{pages_of}
+use Rattle.slab_model.specs.Geometry.{pages_of}
 
 -- a store of free places: a grant takes one while there is one, and each place that comes back is free
 abbrev pub places : Memory ℕ

@@ -4,8 +4,12 @@
 
 pub mod calls;
 pub mod errors;
+mod node;
 pub mod rules;
+mod table;
+pub mod zone;
 
 pub use calls::{ReqReply, ReqSpec};
 pub use errors::OpenFault;
 pub use rules::{Allowed, amount, delay};
+pub use zone::ReqZone;

@@ -1,0 +1,5 @@
+pub mod ExpiryLemmas
+pub mod FrontLemmas
+pub mod GeometryLemmas
+pub mod MissingLemmas
+pub mod FoundLemmas
