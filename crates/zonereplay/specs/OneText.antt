@@ -16,10 +16,10 @@ use Rattle.zonereplay.specs.Words.{OneJob}
 abbrev pub thousandths : ℕ → List ℕ
 thousandths n = decimal (n / 1000) ++ 46 ∷ (48 + n / 100 % 10) ∷ (48 + n / 10 % 10) ∷ (48 + n % 10) ∷ []
 
--- the excess in a reply
-abbrev pub excess_of : ReqReply → ℕ
-excess_of (Pass excess) = excess
-excess_of (Busy excess) = excess
+-- the excess that a request is delayed for
+abbrev pub delayed_excess : ReqReply → ℕ
+delayed_excess (Pass excess) = excess
+delayed_excess (Busy excess) = 0
 
 -- what a check by the last limit says; it has no other replies than these three
 abbrev pub reply_words : ℕ → Reply → List ℕ

@@ -4,6 +4,7 @@
 mod cut;
 mod job;
 mod keys;
+mod one;
 mod output;
 mod text;
 mod words;

@@ -1,5 +1,5 @@
 ghost use Rattle.std.specs.Prelude.{◌≡◌, ◌++◌, ◌<◌, ◌^◌, IfOk, OnOk, decimal};
-ghost use Rattle.zonereplay.specs.OneText.{thousandths, excess_of, reply_words, reply_line};
+ghost use Rattle.zonereplay.specs.OneText.{thousandths, delayed_excess, reply_words, reply_line};
 ghost use Rattle.req_zone.specs.Calls.{reply_of};
 ghost use Rattle.req_zone.specs.Amount.{IsRate};
 
@@ -33,7 +33,7 @@ fn push_thousandths(text: &mut Vec<u8>, number: u64) -> Result<(), AllocError>
 /// Adds what a check by the last limit says.
 fn push_reply(text: &mut Vec<u8>, rate: u64, reply: ReqReply) -> Result<(), AllocError>
     requires rate { IsRate rate }
-    requires excess { excess_of reply < 2 ^ 52 }
+    requires excess { delayed_excess reply < 2 ^ 52 }
     ensures { OnOk result (text.new.items ≡ text.old.items ++ reply_words rate (reply_of reply)) }
 {
     match reply {
@@ -58,7 +58,7 @@ pub(crate) fn line_of(
     reply: ReqReply,
 ) -> Result<Text, NoMemory>
     requires rate { IsRate rate }
-    requires excess { excess_of reply < 2 ^ 52 }
+    requires excess { delayed_excess reply < 2 ^ 52 }
     ensures { IfOk result (λ text. text ≡ reply_line number rate (reply_of reply)) }
 {
     let mut text = Vec::with_capacity(alloc, 48)?;
