@@ -1,19 +1,51 @@
 -- What a status says.
-use Rattle.std.specs.Prelude.{ℕ, ◌≡◌, ◌≢◌, ◌<◌, ◌≤◌, ◌⊎◌, List, [], ◌∷◌, ◌++◌, Option, length, take, codes}
+use Rattle.std.specs.Prelude.{ℕ, ◌≡◌, ◌<◌, ◌⊎◌, List, Option, length, take, codes}
 use Rattle.std.specs.List.{concat}
 use Rattle.std.specs.Io.KnownBytes.{Appends, Keeps}
 use Rattle.zone_outside.specs.Faults.{Rose}
-use Rattle.zonereplay.specs.Plan.{Plan, End, Ends, Reaches}
+use Rattle.zonereplay.specs.Plan.{Plan, Ends, Reaches}
 use Rattle.zonereplay.specs.Plan.End.{refused, written}
 
--- what is known of the devices at one moment: the contents and the counts of the files, what standard output and standard error took, and their counts
+-- what a sink took, where it tells it, and how many of its writes failed
+pub record Taken : Type 0 where
+  pub text : Option (List ℕ)
+  pub faults : ℕ
+
+-- the devices at one moment: what the files hold, where that is told, the count of faults of each name, standard output and standard error
 pub record Devices : Type 0 where
   pub contents : List ℕ → Option (List ℕ)
   pub faults : List ℕ → ℕ
-  pub out : Option (List ℕ)
-  pub out_faults : ℕ
-  pub err : Option (List ℕ)
-  pub err_faults : ℕ
+  pub out : Taken
+  pub err : Taken
+
+-- ---- one sink
+
+-- a sink took this text
+abbrev pub Takes : Taken → Taken → List ℕ → Type 0
+Takes before after text = Appends before.text after.text text
+
+-- a sink took nothing
+abbrev pub TakesNone : Taken → Taken → Type 0
+TakesNone before after = Keeps before.text after.text
+
+-- a write to a sink failed, after a proper prefix of the text
+pub record TakesPart (before after : Taken) (text : List ℕ) : Type 0 where
+  pub rose : Rose before.faults after.faults
+  pub part : ℕ
+  pub proper : part < length text
+  pub took : Takes before after (take part text)
+
+-- the sink took this line, and the answer is this status; or a write failed, and the answer is 5
+abbrev pub Told : ℕ → List ℕ → ℕ → Taken → Taken → Type 0
+Told status line answer before after = ((answer ≡ status) × Takes before after line) ⊎ ((answer ≡ 5) × Rose before.faults after.faults)
+
+-- the lines were written and the answer is 0; or a write failed, the answer is 5 and standard error was told so, if it took that
+abbrev pub Wrote : List (List ℕ) → ℕ → Taken → Taken → Taken → Taken → Type 0
+Wrote lines answer out out_after err err_after =
+    ((answer ≡ 0) × Takes out out_after (concat lines) × TakesNone err err_after)
+    ⊎ ((answer ≡ 5) × TakesPart out out_after (concat lines) × (Takes err err_after (codes "write fault\n") ⊎ Rose err.faults err_after.faults))
+
+-- ---- the causes of the statuses
 
 -- a named file could not be opened or read
 pub record ReadFault (plan : Plan) (before after : Devices) : Type 0 where
@@ -21,44 +53,43 @@ pub record ReadFault (plan : Plan) (before after : Devices) : Type 0 where
   pub named : Reaches before.contents plan name
   pub rose : Rose (before.faults name) (after.faults name)
 
--- a line is due on standard error
+-- a status with a line that is due on standard error: the plan ends so, or a named file had a fault
 abbrev pub Due : Plan → Devices → Devices → ℕ → List ℕ → Type 0
 Due plan before after status line = Ends before.contents plan (refused status line) ⊎ ((status ≡ 4) × (line ≡ codes "read fault\n") × ReadFault plan before after)
 
--- standard output took all the lines
+-- all the text was written
 pub record Written (plan : Plan) (before after : Devices) : Type 0 where
   pub lines : List (List ℕ)
   pub ends : Ends before.contents plan (written lines)
-  pub took : Appends before.out after.out (concat lines)
+  pub out : Takes before.out after.out (concat lines)
+  pub err : TakesNone before.err after.err
 
--- standard output refused a write, after a proper prefix of the text
+-- a write of the text failed
 pub record OutFault (plan : Plan) (before after : Devices) : Type 0 where
   pub lines : List (List ℕ)
   pub ends : Ends before.contents plan (written lines)
-  pub rose : Rose before.out_faults after.out_faults
-  pub part : ℕ
-  pub proper : part < length (concat lines)
-  pub took : Appends before.out after.out (take part (concat lines))
+  pub out : TakesPart before.out after.out (concat lines)
+  pub err : Takes before.err after.err (codes "write fault\n") ⊎ Rose before.err.faults after.err.faults
 
--- standard error refused a line that was due
+-- a line that was due was written
+pub record Refused (plan : Plan) (before after : Devices) (status : ℕ) : Type 0 where
+  pub line : List ℕ
+  pub due : Due plan before after status line
+  pub out : TakesNone before.out after.out
+  pub err : Takes before.err after.err line
+
+-- the writing of a line that was due failed
 pub record ErrFault (plan : Plan) (before after : Devices) : Type 0 where
   pub status : ℕ
   pub line : List ℕ
   pub due : Due plan before after status line
-  pub rose : Rose before.err_faults after.err_faults
-  pub kept : Keeps before.out after.out
+  pub out : TakesNone before.out after.out
+  pub rose : Rose before.err.faults after.err.faults
 
--- a line that was due was written on standard error
-pub record Refused (plan : Plan) (before after : Devices) (status : ℕ) : Type 0 where
-  pub line : List ℕ
-  pub due : Due plan before after status line
-  pub took : Appends before.err after.err line
-  pub kept : Keeps before.out after.out
-
--- there was no memory
+-- there was no memory, and nothing was written
 pub record WantOfMemory (before after : Devices) : Type 0 where
-  pub out_kept : Keeps before.out after.out
-  pub err_kept : Keeps before.err after.err
+  pub out : TakesNone before.out after.out
+  pub err : TakesNone before.err after.err
 
 -- a status and its cause
 pub data Answers (plan : Plan) (before after : Devices) (status : ℕ) : Type 0 where
@@ -68,8 +99,10 @@ pub data Answers (plan : Plan) (before after : Devices) (status : ℕ) : Type 0 
   err_failed : status ≡ 5 → ErrFault plan before after → Answers plan before after status
   no_memory : status ≡ 7 → WantOfMemory before after → Answers plan before after status
 
--- the plan can't end in a refusal, no named file had a fault, and standard output none
+-- ---- completeness
+
+-- the plan can't end in a refusal, no file that it comes to had a fault, and standard output had none
 pub record IsFree (plan : Plan) (before after : Devices) : Type 0 where
   pub sound : (status : ℕ) (line : List ℕ) → Ends before.contents plan (refused status line) → ⊥
   pub read : (name : List ℕ) → Reaches before.contents plan name → Rose (before.faults name) (after.faults name) → ⊥
-  pub wrote : Rose before.out_faults after.out_faults → ⊥
+  pub wrote : Rose before.out.faults after.out.faults → ⊥

@@ -5,3 +5,4 @@ pub mod OneText
 pub mod Plan
 pub mod Answers
 pub mod Jobs
+pub mod Stops

@@ -35,7 +35,7 @@ loop-line-preserved c =
       number = rw c.in_ok-push.ensures.items (omega (arith, length-append c.loop-line.lines.items (c.in_ok-line_of.field-0 ∷ [])));
       limits = All-tail IsInLimits c.in-Some.line rest limits;
       lines = c.loop-line.invariant.lines
-        ∙ ap (λ (ks : List KeyLine). c.loop-line.lines.items ++ reply_lines c.loop-line.number c.args.job.rate (replies_of places c.args.job.rate c.loop-line.zone.state (checks c.args.job.burst ks))) first
-        ∙ more
-        ∙ ap (λ (ls : List (List ℕ)). ls ++ reply_lines (c.loop-line.number + 1) c.args.job.rate (replies_of places c.args.job.rate c.check_last.new.self.state (checks c.args.job.burst rest))) (sym c.in_ok-push.ensures.items);
+          ∙ ap (λ (ks : List KeyLine). c.loop-line.lines.items ++ reply_lines c.loop-line.number c.args.job.rate (replies_of places c.args.job.rate c.loop-line.zone.state (checks c.args.job.burst ks))) first
+          ∙ more
+          ∙ ap (λ (ls : List (List ℕ)). ls ++ reply_lines (c.loop-line.number + 1) c.args.job.rate (replies_of places c.args.job.rate c.check_last.new.self.state (checks c.args.job.burst rest))) (sym c.in_ok-push.ensures.items);
     }

@@ -1,0 +1,38 @@
+-- The causes of the statuses.
+use Rattle.std.proofs.Common.{ℕ, ◌≡◌, ◌≢◌, ◌⊎◌, List, Option, Some, None, arith, ap, sym, subst, ◌∙◌, refl, inl, inr}
+use Rattle.std.specs.Prelude.{codes}
+use Rattle.std.specs.Io.KnownBytes.{Keeps}
+use Rattle.zone_outside.specs.Faults.{Rose}
+use Rattle.zonereplay.specs.declared.stop.Stop.{Stop}
+use Rattle.zonereplay.specs.declared.stop.Stop.TheVariants.{ReadFault, TooLong, Log, NoMemory}
+use Rattle.zonereplay.specs.Keys.{Fault}
+use Rattle.zonereplay.specs.Plan.{Plan, End, Ends, Reaches, log_fault}
+use Rattle.zonereplay.specs.Plan.End.{refused, written}
+use Rattle.zonereplay.specs.Answers as answers
+use Rattle.zonereplay.specs.Answers.{Taken, Devices, Told, TakesNone, Due, Refused, ErrFault, WantOfMemory, Answers}
+use Rattle.zonereplay.specs.Answers.Answers.{done, told, out_failed, err_failed, no_memory}
+use Rattle.zonereplay.specs.Stops.{StopsBy, StopTold}
+
+-- a sink that was left alone took nothing
+none_taken : (known : Option (List ℕ)) → Keeps known known
+none_taken None = tt
+none_taken (Some text) = refl
+
+-- a line that was due was told, or standard error refused it
+due_told : (plan : Plan) (before after : Devices) (status : ℕ) (line : List ℕ) (answer : ℕ) → after.out ≡ before.out → Due plan before after status line → Told status line answer before.err after.err → Answers plan before after answer
+due_told plan before after status line answer out due (inl (is, took)) =
+    told (record { line = line; due = subst (λ (s : ℕ). Due plan before after s line) (sym is) due; out = rw out (none_taken before.out.text); err = took })
+due_told plan before after status line answer out due (inr (is, rose)) =
+    err_failed is (record { status = status; line = line; due = due; out = rw out (none_taken before.out.text); rose = rose })
+
+want : (plan : Plan) (before after : Devices) (answer : ℕ) → after.out ≡ before.out → answer ≡ 7 → TakesNone before.err after.err → Answers plan before after answer
+want plan before after answer out is none = no_memory is (record { out = rw out (none_taken before.out.text); err = none })
+
+-- a stop is answered by its cause
+pub stop_answers : (plan : Plan) (before after : Devices) (name : List ℕ) (stop : Stop) (answer : ℕ) → after.out ≡ before.out → Reaches before.contents plan name
+    → StopsBy before.contents plan (before.faults name) (after.faults name) stop → StopTold stop answer before.err after.err → Answers plan before after answer
+stop_answers plan before after name ReadFault answer out reached rose tells = due_told plan before after 4 (codes "read fault\n") answer out (inr (refl, refl, record { name = name; named = reached; rose = rose })) tells
+stop_answers plan before after name TooLong answer out reached ends tells = due_told plan before after 6 (codes "too long\n") answer out (inl ends) tells
+stop_answers plan before after name (Log line kind) answer out reached ends (inl tells) = due_told plan before after 3 (log_fault (record { line = line; kind = kind })) answer out (inl ends) tells
+stop_answers plan before after name (Log line kind) answer out reached ends (inr (is, none)) = want plan before after answer out is none
+stop_answers plan before after name NoMemory answer out reached free (is, none) = want plan before after answer out is none

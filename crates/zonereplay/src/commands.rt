@@ -1,0 +1,54 @@
+ghost use Rattle.std.specs.Prelude.{◌≡◌, ◌≢◌, ◌≤◌, ◌⊎◌, ℕ, List, IsSome};
+ghost use Rattle.zonereplay.specs.Words.{one_of};
+ghost use Rattle.zonereplay.specs.Plan.{plan_of};
+ghost use Rattle.zonereplay.specs.Answers.{Answers, IsFree, Wrote};
+
+use crate::output::write_lines;
+use crate::prepare::prepare_one;
+use crate::tell::{tell, tell_stop};
+use crate::words::read_one;
+use std::alloc::Global;
+use zone_outside::{Shelf, Sink, Text};
+
+/// The line that tells the forms of the words.
+const USAGE: &[u8] =
+    b"usage: one RATE BURST SIZE LOG | check CONFIG | plain CONFIG LOG | replay CONFIG LOG WORKERS [words] | image CONFIG LOG ZONE | made SEED LINES\n";
+
+/// Writes the lines and answers 0. Where a write fails, tells so on standard error and answers 5.
+fn finish<O: Sink, E: Sink>(out: &mut O, err: &mut E, lines: &[Text]) -> u8
+    ensures { Wrote lines.now result
+        (record { text = O.taken out.old; faults = O.faults out.old }) (record { text = O.taken out.new; faults = O.faults out.new })
+        (record { text = E.taken err.old; faults = E.faults err.old }) (record { text = E.taken err.new; faults = E.faults err.new }) }
+{
+    match write_lines(out, lines) {
+        Ok(()) => 0,
+        Err(_) => tell(err, 5, b"write fault\n"),
+    }
+}
+
+/// Replays a log of keys in one request zone named `one`, and writes a line for each. The words are
+/// `one RATE BURST SIZE LOG`.
+pub fn one_command<F: Shelf, O: Sink, E: Sink>(
+    alloc: Global,
+    words: &[Text],
+    files: &mut F,
+    out: &mut O,
+    err: &mut E,
+) -> u8
+    requires { IsSome (one_of words.now) }
+    ensures answers { Answers (plan_of words.now)
+        (record { contents = F.contents files.old; faults = F.faults files.old; out = record { text = O.taken out.old; faults = O.faults out.old }; err = record { text = E.taken err.old; faults = E.faults err.old } })
+        (record { contents = F.contents files.new; faults = F.faults files.new; out = record { text = O.taken out.new; faults = O.faults out.new }; err = record { text = E.taken err.new; faults = E.faults err.new } })
+        result }
+    ensures kept { (n : List ℕ) → F.contents files.new n ≡ F.contents files.old n }
+    ensures later { (n : List ℕ) → F.faults files.old n ≤ F.faults files.new n }
+    ensures calm { result ≢ 4 → result ≢ 5 → (n : List ℕ) → F.faults files.new n ≡ F.faults files.old n }
+{
+    let Some((job, log)) = read_one(words) else {
+        unreachable!()
+    };
+    match prepare_one(alloc, job, log, files) {
+        Ok(lines) => finish(out, err, &lines),
+        Err(stop) => tell_stop(alloc, err, stop),
+    }
+}
