@@ -1,3 +1,4 @@
 pub mod Joins
 pub mod DigitLemmas
 pub mod RepeatedLemmas
+pub mod ShelfLemmas

@@ -26,3 +26,15 @@ pub record Sink : Type 0 where
   pub failing : List ℕ
   pub writes : ℕ
   pub faults : ℕ
+
+-- a name, and the bytes that it names
+pub record File : Type 0 where
+  pub name : List ℕ
+  pub bytes : List ℕ
+
+-- a shelf in memory: its files, the numbers of the opens that fail, and its counts of opens and faults
+pub record Shelf : Type 0 where
+  pub files : List File
+  pub failing : List ℕ
+  pub opens : ℕ
+  pub faults : ℕ

@@ -1,11 +1,11 @@
-ghost use Rattle.std.specs.Prelude.{◌≡◌, ◌≢◌, ◌↔◌, ℕ, ◌+◌, ◌-◌, ◌^◌, ◌<◌, ◌≤◌, min, List, [], ◌++◌, length, take, Some, Contains, IfOk, IsErr, IfSome, find, nat_eq, OnOk, OnErr, Option};
+ghost use Rattle.std.specs.Prelude.{◌≡◌, ◌≢◌, ◌↔◌, ℕ, ◌+◌, ◌-◌, ◌^◌, ◌<◌, ◌≤◌, min, List, [], ◌++◌, length, take, Some, None, ◌⊎◌, Contains, IfOk, IsErr, IfSome, find, nat_eq, OnOk, OnErr, Option};
 ghost use Rattle.std.specs.Cmp.Lexicographic.{pointwise};
-ghost use Rattle.std.specs.Option.{option_copied};
+ghost use Rattle.std.specs.Option.{option_copied, option_map};
 ghost use Rattle.std.specs.Io.{ReadsAtMost, WritesAtMost};
 ghost use Rattle.std.specs.Io.KnownBytes.{ReadConsumes, WriteAppends};
 ghost use Rattle.zone_outside.specs.Faults.{HasCause, Rose};
 ghost use Rattle.zone_outside.specs.Memory.{repeated};
-ghost use Rattle.zone_outside.specs.Shelves.{text_named};
+ghost use Rattle.zone_outside.specs.Shelves.{files_of, text_named};
 
 use crate::devices::{Shelf, Sink, Source};
 use crate::errors::{Failed, count_fault};
@@ -293,11 +293,24 @@ pub struct MemShelf<'a> {
     faults: u64,
 }
 
+impl<'a> Model for MemShelf<'a> {
+    ghost use Rattle.zone_outside.specs.Memory.{Shelf as State};
+    ghost use Rattle.zone_outside.specs.Shelves.{files_of};
+
+    ghost Value = { State };
+
+    ghost view = { λ s. record {
+      files = files_of s.files.now;
+      failing = s.failing.now;
+      opens = s.opens;
+      faults = s.faults;
+    } };
+}
+
 impl<'a> MemShelf<'a> {
     /// A shelf of these texts. Where two have one name, the first counts.
     pub fn of(files: &'a [MemFile<'a>], failing: &'a [u64]) -> MemShelf<'a>
-        ensures contents { (n : List ℕ) → ⟦<MemShelf<'a> as Shelf>⟧.contents result n ≡ text_named n files.now }
-        ensures faults { (n : List ℕ) → ⟦<MemShelf<'a> as Shelf>⟧.faults result n ≡ 0 }
+        ensures { result ≡ record { files = files_of files.now; failing = failing.now; opens = 0; faults = 0 } }
     {
         MemShelf {
             files,
@@ -306,40 +319,34 @@ impl<'a> MemShelf<'a> {
             faults: 0,
         }
     }
-
-    // The text of this name, where there is one and this open is to succeed.
-    fn found(&self, name: &[u8]) -> Option<&'a MemText<'a>>
-        ensures { IfSome result (λ text. text_named name.now self.now.files.now ≡ Some text.now.bytes) }
-    {
-        if self.failing.contains(&self.opens) {
-            return None;
-        }
-        match file_named(self.files, name) {
-            Some(file) => Some(&file.text),
-            None => None,
-        }
-    }
-}
-
-// The first file of this name.
-fn file_named<'a>(files: &'a [MemFile<'a>], name: &[u8]) -> Option<&'a MemFile<'a>>
-    ensures { option_copied result ≡ find (λ file. pointwise nat_eq file.name.now name.now) files.now }
-{
-    files.iter().find(|file| file.name == name)
 }
 
 impl<'a> Shelf for MemShelf<'a> {
     type Item = MemSource<'a>;
 
-    ghost contents = { λ s n. text_named n s.files.now };
+    ghost contents = { λ s n. text_named n s.files };
 
     ghost faults = { λ s n. s.faults };
 
-    fn open(&mut self, name: Text) -> Result<MemSource<'a>, Failed> {
+    fn open(&mut self, name: Text) -> Result<MemSource<'a>, Failed>
+        ensures same { self.new.files ≡ self.old.files }
+        ensures kept { (n : List ℕ) → text_named n self.new.files ≡ text_named n self.old.files }
+        ensures later { List ℕ → self.old.faults ≤ self.new.faults }
+        ensures named { IfOk result (λ item. item.name ≡ name) }
+        ensures whole { IfOk result (λ item. Some item.left ≡ text_named name self.old.files) }
+        ensures fresh { IfOk result (λ item. item.faults ≡ 0) }
+        ensures calm { OnOk result (List ℕ → self.new.faults ≡ self.old.faults) }
+        ensures failed { OnErr result (Rose self.old.faults self.new.faults) }
+        ensures failing { Contains self.old.failing self.new.opens → IsErr result }
+        ensures opens { self.new.opens ≡ min (self.old.opens + 1) (2 ^ 64 - 1) }
+        ensures others { self.new.failing ≡ self.old.failing }
+        ensures found { OnErr result (Contains self.old.failing self.new.opens ⊎ (text_named name self.old.files ≡ None)) }
+    {
         self.opens = self.opens.saturating_add(1);
-        match self.found(name.bytes()) {
-            Some(text) => Ok(MemSource::of(name, text)),
-            None => {
+        let fails = self.failing.contains(&self.opens);
+        match file_named(self.files, name.bytes()) {
+            Some(file) if !fails => Ok(MemSource::of(name, &file.text)),
+            _ => {
                 count_fault(&mut self.faults);
                 Err(Failed)
             }
@@ -351,4 +358,18 @@ impl<'a> Shelf for MemShelf<'a> {
             count_fault(&mut self.faults);
         }
     }
+}
+
+// The first file of this name.
+fn file_named<'a>(files: &'a [MemFile<'a>], name: &[u8]) -> Option<&'a MemFile<'a>>
+    ensures { option_map (λ file. file.now.text.bytes) result ≡ text_named name.now (files_of files.now) }
+{
+    first_named(files, name)
+}
+
+// The first file of this name, as a search tells it.
+fn first_named<'a>(files: &'a [MemFile<'a>], name: &[u8]) -> Option<&'a MemFile<'a>>
+    ensures { option_copied result ≡ find (λ file. pointwise nat_eq file.name.now name.now) files.now }
+{
+    files.iter().find(|file| file.name == name)
 }

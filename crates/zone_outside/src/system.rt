@@ -1,4 +1,4 @@
-ghost use Rattle.std.specs.Prelude.{None};
+ghost use Rattle.std.specs.Prelude.{◌≡◌, ℕ, List, None};
 
 use crate::devices::{Shelf, Sink, Source};
 use crate::errors::{Failed, count_fault};
@@ -17,7 +17,9 @@ pub struct FileShelf<'a, R: Files> {
 
 impl<'a, R: Files> FileShelf<'a, R> {
     /// The files that this runtime reaches.
-    pub fn of(system: &'a R) -> FileShelf<'a, R> {
+    pub fn of(system: &'a R) -> FileShelf<'a, R>
+        ensures { (n : List ℕ) → ⟦<FileShelf<'a, R> as Shelf>⟧.faults result n ≡ 0 }
+    {
         FileShelf { system, faults: 0 }
     }
 }
@@ -91,7 +93,9 @@ pub struct StdSink<P> {
 
 impl<P: Print> StdSink<P> {
     /// A sink that writes there: `rt.stdout()` or `rt.stderr()`.
-    pub fn of(to: P) -> StdSink<P> {
+    pub fn of(to: P) -> StdSink<P>
+        ensures { ⟦<StdSink<P> as Sink>⟧.faults result ≡ 0 }
+    {
         StdSink { to, faults: 0 }
     }
 }

@@ -1,4 +1,4 @@
-use Rattle.std.proofs.Common.{◌≡◌, ◌<◌, ◌+◌, ◌*◌, ◌-◌, ◌∙◌, get_or, take, arith, ap, sym, rules}
+use Rattle.std.proofs.Common.{◌<◌, ◌+◌, ◌*◌, ◌-◌, get_or, take, arith}
 use Rattle.std.specs.Str.Parse.{digits_value}
 use Rattle.zone_outside.proofs.DigitLemmas.{digit_in_range, value_more, too_much}
 use Rattle.zone_outside.proofs.numbers.value_up_to.Goals as goal
