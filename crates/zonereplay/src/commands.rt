@@ -10,10 +10,6 @@ use crate::words::read_one;
 use std::alloc::Global;
 use zone_outside::{Shelf, Sink, Text};
 
-/// The line that tells the forms of the words.
-const USAGE: &[u8] =
-    b"usage: one RATE BURST SIZE LOG | check CONFIG | plain CONFIG LOG | replay CONFIG LOG WORKERS [words] | image CONFIG LOG ZONE | made SEED LINES\n";
-
 /// Writes the lines and answers 0. Where a write fails, tells so on standard error and answers 5.
 fn finish<O: Sink, E: Sink>(out: &mut O, err: &mut E, lines: &[Text]) -> u8
     ensures { Wrote lines.now result

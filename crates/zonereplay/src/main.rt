@@ -1,4 +1,4 @@
-//! The replayer.
+//! The replayer of nginx's shared memory zones: reads directives and a log, and prints each decision.
 #![tactic(auto)]
 
 mod commands;
@@ -8,9 +8,41 @@ mod keys;
 mod one;
 mod output;
 mod prepare;
+mod run;
 mod stop;
 mod tell;
 mod text;
 mod words;
 
-fn main() {}
+use run::run;
+use std::alloc::Global;
+use std::process::ExitCode;
+use std::rt::Env;
+use std::{env, io};
+use zone_outside::{FileShelf, NoMemory, StdSink, Text};
+
+/// The words after the program's name; none of them where one isn't text.
+fn words_of(rt: &(impl Env + AllocGlobal)) -> Result<Vec<Text>, NoMemory> {
+    let alloc = rt.alloc();
+    let mut words = Vec::new(alloc);
+    let arguments = match env::args(rt) {
+        Ok(arguments) => arguments,
+        Err(error) if error.kind() == io::ErrorKind::OutOfMemory => return Err(NoMemory),
+        Err(_) => return Ok(words),
+    };
+    for argument in arguments.skip(1) {
+        words.push(Text::of(alloc, argument.as_bytes())?)?;
+    }
+    Ok(words)
+}
+
+fn main(rt: HostRuntime) -> ExitCode {
+    let alloc = rt.alloc();
+    let Ok(words) = words_of(&rt) else {
+        return ExitCode::from(7);
+    };
+    let mut files = FileShelf::of(&rt);
+    let mut out = StdSink::of(rt.stdout());
+    let mut err = StdSink::of(rt.stderr());
+    ExitCode::from(run(&rt, alloc, &words, &mut files, &mut out, &mut err))
+}

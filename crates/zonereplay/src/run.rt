@@ -1,0 +1,60 @@
+ghost use Rattle.std.specs.Prelude.{◌≡◌, ◌≢◌, ◌≤◌, ◌⊎◌, ℕ, List, None, IsSome};
+ghost use Rattle.zonereplay.specs.Words.{one_of};
+ghost use Rattle.zonereplay.specs.Plan.{plan_of};
+ghost use Rattle.zonereplay.specs.Answers.{Answers, IsFree};
+
+use crate::commands::one_command;
+use crate::tell::tell;
+use crate::words::read_one;
+use std::alloc::Global;
+use zone_outside::{Shelf, Sink, Text};
+
+/// The line that tells the forms of the words.
+const USAGE: &[u8; 143] =
+    b"usage: one RATE BURST SIZE LOG | check CONFIG | plain CONFIG LOG | replay CONFIG LOG WORKERS [words] | image CONFIG LOG ZONE | made SEED LINES\n";
+
+/// Does what the words ask for, and answers the status with which the program ends:
+///
+/// - 0: the job is done, and `out` took all its text.
+/// - 1: the words are none of the forms that are built. `err` has the usage line.
+/// - 3: the log has a fault. `err` has `log LINE KIND`.
+/// - 4: a named file could not be opened or read. `err` has `read fault`.
+/// - 5: a write failed. `err` has `write fault`, if it takes that. After a failed write to `out`, `out`
+///   has a proper prefix of the text.
+/// - 6: a text that is read is longer than 16,777,216 bytes. `err` has `too long`.
+/// - 7: there was no memory. Nothing was written.
+///
+/// The earliest of these that holds is answered, in the order of the work: the words, the files in their
+/// order and what they say, the writing. `rt` is the runtime, for commands that run on several workers.
+pub fn run<R, F: Shelf, O: Sink, E: Sink>(
+    _rt: &R,
+    alloc: Global,
+    words: &[Text],
+    files: &mut F,
+    out: &mut O,
+    err: &mut E,
+) -> u8
+    // Each status has its cause.
+    ensures answers { Answers (plan_of words.now)
+        (record { contents = F.contents files.old; faults = F.faults files.old; out = record { text = O.taken out.old; faults = O.faults out.old }; err = record { text = E.taken err.old; faults = E.faults err.old } })
+        (record { contents = F.contents files.new; faults = F.faults files.new; out = record { text = O.taken out.new; faults = O.faults out.new }; err = record { text = E.taken err.new; faults = E.faults err.new } })
+        result }
+    // 1 exactly for words of no form, but where the usage line can't be written.
+    ensures form { result ≡ 1 → one_of words.now ≡ None }
+    ensures no_form { one_of words.now ≡ None → (result ≡ 1) ⊎ (result ≡ 5) }
+    // With sound texts and devices without faults, the job is done or there was no memory.
+    ensures complete { IsFree (plan_of words.now)
+        (record { contents = F.contents files.old; faults = F.faults files.old; out = record { text = O.taken out.old; faults = O.faults out.old }; err = record { text = E.taken err.old; faults = E.faults err.old } })
+        (record { contents = F.contents files.new; faults = F.faults files.new; out = record { text = O.taken out.new; faults = O.faults out.new }; err = record { text = E.taken err.new; faults = E.faults err.new } })
+        → (result ≡ 0) ⊎ (result ≡ 7) }
+
+    // What the files hold stays, and their counts rise only with statuses 4 and 5.
+    ensures kept { (n : List ℕ) → F.contents files.new n ≡ F.contents files.old n }
+    ensures later { (n : List ℕ) → F.faults files.old n ≤ F.faults files.new n }
+    ensures calm { result ≢ 4 → result ≢ 5 → (n : List ℕ) → F.faults files.new n ≡ F.faults files.old n }
+{
+    match read_one(words) {
+        Some(_) => one_command(alloc, words, files, out, err),
+        None => tell(err, 1, USAGE),
+    }
+}
