@@ -1,5 +1,5 @@
 -- The check of a key whose node stands at a place.
-use Rattle.std.proofs.Common.{ℕ, ◌≡◌, ◌<◌, Bool, true, false, cond, ltb, List, [], ◌++◌, length, take, drop, get_or, position, Option, Some, None, Result, Ok, Err, IfOk, refl, ap, sym, ◌∙◌, arith}
+use Rattle.std.proofs.Common.{ℕ, ◌≡◌, ◌<◌, Bool, true, false, cond, ltb, List, [], ◌++◌, length, take, drop, get_or, position, Option, Some, None, Result, Ok, Err, IfOk, OnErr, refl, ap, sym, ◌∙◌, arith}
 use Rattle.std.proofs.lemmas.List.Folds.{find_at}
 use Rattle.std.proofs.lemmas.Option.{slice_get-get_or, slice_get_past}
 use Rattle.std.proofs.lemmas.Bool.{ltb-false}
@@ -28,7 +28,7 @@ found_at key table i d at =
     let below : k < length table = grind (arith, h.0) in
     (find_at (has_key key) table ∙ slice_get-get_or table k d below ∙ ap (λ (j : ℕ). Some (get_or table j d)) h.1, h.1)
 
-missing_at : (key : List ℕ) (table : List Entry) → position (has_key key) table ≡ None → entry_of key table ≡ None
+pub missing_at : (key : List ℕ) (table : List Entry) → position (has_key key) table ≡ None → entry_of key table ≡ None
 missing_at key table at =
     let k = position_or_len (has_key key) table in
     find_at (has_key key) table ∙ slice_get_past table k (ltb-false k (length table) (chosen_none (ltb k (length table)) k at))
@@ -68,3 +68,7 @@ if_ok (Err e) P Q f h = h
 -- a list of the same length, written over all of a vector
 pub written_over : (n : ℕ) (after items : List Entry) → length after ≡ length items → n ≡ length items → take n (after ++ drop (length after) items) ≡ after
 written_over n after items same whole = grind (arith, common_steps)
+
+pub on_err : {T E : Type 0} (r : Result T E) (P : Type 0) → P → OnErr r P
+on_err (Ok x) P h = tt
+on_err (Err e) P h = h

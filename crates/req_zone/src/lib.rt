@@ -13,3 +13,6 @@ pub use calls::{ReqReply, ReqSpec};
 pub use errors::OpenFault;
 pub use rules::{Allowed, amount, delay};
 pub use zone::ReqZone;
+
+#[cfg(test)]
+mod tests;

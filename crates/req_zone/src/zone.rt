@@ -4,6 +4,7 @@ ghost use Rattle.req_zone.specs.Calls.{reply_of, Call};
 ghost use Rattle.req_zone.specs.Calls.Call.{check};
 ghost use Rattle.req_zone.specs.Places.{Zone, opened, capacity_of, places, Answers};
 ghost use Rattle.req_zone.specs.Step.{check_missing};
+ghost use Rattle.req_zone.specs.Table.{entry_of};
 ghost use Rattle.req_zone.specs.Leaving.{leaving_in_all};
 ghost use Rattle.req_zone.specs.Opening.{IsFaultOf};
 ghost use Rattle.slab_model.specs.Geometry.{least_zone, greatest_zone};
@@ -92,13 +93,15 @@ impl ReqZone {
     /// The check of a key by the last limit of a request, at a moment in ms. The key has 1 to 48
     /// bytes, the moment is below 2^42, and the burst at most 1,000,000,000 thousandths of a
     /// request. `Busy` comes exactly where the excess is above the burst. A missing key always finds
-    /// room, since the forced expiry frees a node. After `NoMemory` the zone is as before.
+    /// room, since the forced expiry frees a node. `NoMemory` comes only for a missing key, and the
+    /// zone is then as before.
     pub fn check_last(&mut self, key: Key, now: u64, burst: u64) -> Result<ReqReply, NoMemory>
         requires key { (0 < length key) × (length key ≤ 48) }
         requires now { IsMoment now }
         requires burst { burst ≤ greatest_burst }
         ensures checked { IfOk result (λ reply. Answers self.old self.new (check key now burst true) (reply_of reply)) }
         ensures unchanged { OnErr result (self.new ≡ self.old) }
+        ensures missing { OnErr result (entry_of key self.old.state.table ≡ None) }
     {
         match place_of(&self.nodes, &key) {
             Some(place) => Ok(check_at(&mut self.nodes, place, self.rate, now, burst)),

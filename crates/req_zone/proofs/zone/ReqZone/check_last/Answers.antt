@@ -5,7 +5,7 @@ use Rattle.req_zone.specs.Calls.{reply_of}
 use Rattle.req_zone.specs.Calls.Call.{check}
 use Rattle.req_zone.specs.Step.{check_found}
 use Rattle.req_zone.specs.Places.{Zone, Answers}
-use Rattle.req_zone.proofs.FoundLemmas.{found_answers, written_over, missing_answers, if_ok}
+use Rattle.req_zone.proofs.FoundLemmas.{found_answers, written_over, missing_answers, if_ok, on_err, missing_at}
 use Rattle.req_zone.proofs.zone.ReqZone.check_last.Goals as goal
 
 pub returns-in-Some-clause-checked : goal.returns-in-Some-clause-checked
@@ -33,3 +33,11 @@ returns-in-None-clause-checked c =
     ap (λ (z : Zone). position (has_key c.args.key) z.state.table) (sym c.self.view_is)
     ∙ ap (λ (xs : List Entry). position (has_key c.args.key) xs) (sym c.deref.ensures.value) ∙ sym c.in-None.ensures in
     if_ok c.admit.result _ _ (λ reply h. missing_answers old c.admit.new.self c.args.now c.args.burst c.args.key (reply_of reply) at h c.admit.ensures.rate) c.admit.ensures.admitted
+
+pub returns-in-None-clause-missing : goal.returns-in-None-clause-missing
+returns-in-None-clause-missing c =
+    let old = c.args.self.now in
+    let at : position (has_key c.args.key) old.state.table ≡ None =
+    ap (λ (z : Zone). position (has_key c.args.key) z.state.table) (sym c.self.view_is)
+    ∙ ap (λ (xs : List Entry). position (has_key c.args.key) xs) (sym c.deref.ensures.value) ∙ sym c.in-None.ensures in
+    on_err c.admit.result _ (missing_at c.args.key old.state.table at)
