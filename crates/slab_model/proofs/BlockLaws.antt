@@ -1,5 +1,5 @@
 -- Which live blocks a grant and a return change, and where live blocks lie.
-use Rattle.std.proofs.Common.{ℕ, ◌≡◌, ◌≢◌, ◌⊎◌, ◌+◌, ◌-◌, ◌*◌, ◌/◌, ◌%◌, ◌<◌, ◌≤◌, zero, suc, Bool, true, false, not, ◌&&◌, ◌||◌, List, [], ◌∷◌, Option, Some, None, length, set, get_or, replicate, sym, ap, subst, ◌∙◌, refl, arith, inl, inr, eqb, cond, get_or-set_same, get_or-set_other}
+use Rattle.std.proofs.Common.{ℕ, ◌≡◌, ◌≢◌, ◌⊎◌, ◌+◌, ◌-◌, ◌*◌, ◌/◌, ◌%◌, ◌<◌, ◌≤◌, zero, suc, Bool, true, false, not, ◌&&◌, ◌||◌, List, [], ◌∷◌, Option, Some, None, length, set, get_or, replicate, sym, ap, subst, ◌∙◌, refl, arith, inl, inr, eqb, cond, mul_assoc, get_or-set_same, get_or-set_other}
 use Rattle.std.proofs.Math.Nat.{mul-le-mul_left}
 use Rattle.std.proofs.lemmas.List.{length-set, length-replicate, get_or-replicate, get_or_past}
 use Rattle.std.proofs.lemmas.Bool.{cases_Bool, cases_eq, cases_lt, cases_order}
@@ -189,3 +189,183 @@ opened-law bytes large small = (IsSound-opened bytes large small, λ at. empty a
   empty : (at : ℕ) → (at < start_of bytes) ⊎ (start_of bytes ≤ at) → live_bytes (opened bytes) at ≡ 0
   empty at (inl low) = live_bytes-low (opened bytes) at low
   empty at (inr behind) = live_bytes-in (opened bytes) at behind ∙ ap (λ t. live_in_page t (place_in_page bytes at)) (all_free (page_number bytes at))
+
+-- ---- give back
+
+-- a page of a class has a block less
+Returns-page : (slab new : Slab) (class page index : ℕ) (used : List ℕ) (state : PageState) → class < 9 → new.bytes ≡ slab.bytes → new.pages ≡ set slab.pages page state → page < length slab.pages → index < blocks_in_page class → page_at slab.pages page ≡ Class class used → ((place : ℕ) → live_in_page state place ≡ live_in_page (Class class (without index used)) place) → Returns slab new (block_offset slab.bytes page class index)
+Returns-page slab new class page index used state known bytes pages here low is left =
+    let c = cuts class known in
+    let place = place_low class index known low in
+    record {
+      gone = gone place c.some;
+      others = λ other ne. live_page slab new page state other bytes pages here (λ q q_is. left q ∙ live_less class index used q c.some (λ e. ne (q_is ∙ ap (λ k. page_offset slab.bytes page + k) e)) ∙ sym (ap (λ t. live_in_page t q) is));
+    }
+  where
+    gone : class_size class * index < 4096 → 0 < class_size class → live_bytes new (block_offset slab.bytes page class index) ≡ 0
+    gone place some =
+        ap (λ b. live_bytes new (block_offset b page class index)) (sym bytes)
+        ∙ live_bytes-at new page (class_size class * index) place
+        ∙ ap (λ ps. live_in_page (page_at ps page) (class_size class * index)) pages
+        ∙ ap (λ t. live_in_page t (class_size class * index)) (get_or-set_same slab.pages page state Free here)
+        ∙ left (class_size class * index)
+        ∙ live_not class (without index used) index some (not_there index used)
+      where
+        not_there : (index : ℕ) (used : List ℕ) → is_member index (without index used) ≡ false
+        not_there index used = let h = is_member-without index index used in grind (arith, common_steps, h)
+
+-- the pages of a used run become free
+Returns-run : (slab : Slab) (page count : ℕ) → IsSound slab → page_at slab.pages page ≡ First count → Returns slab (give_pages slab page count) (page_offset slab.bytes page)
+Returns-run slab page count s is =
+    let run = s.used_runs.followed page count is in
+    let room : page + count ≤ length slab.pages = omega (arith, run.1, s.page_count) in
+    record {
+      gone = at_first (give_pages slab page count) ∙ ap (λ t. live_in_page t 0) (page_at-fill_in Free page count slab.pages page room (omega arith) (omega (arith, run.0)));
+      others = λ other ne. live_same slab (give_pages slab page count) other refl (λ behind. agree other ne behind room (place_of (page_number slab.bytes other) page count));
+    }
+  where
+    at_first : (t : Slab) → live_bytes t (page_offset t.bytes page) ≡ live_in_page (page_at t.pages page) 0
+    at_first t = ap (λ o. live_bytes t o) (sym (plus_none (page_offset t.bytes page))) ∙ live_bytes-at t page 0 (omega arith) where
+      plus_none : (n : ℕ) → n + 0 ≡ n
+      plus_none n = omega arith
+
+    first_page : (place : ℕ) → place ≢ 0 → live_in_page (First count) place ≡ 0
+    first_page place ne = grind (arith, common_steps)
+
+    old_none : (other : ℕ) → other ≢ page_offset slab.bytes page → start_of slab.bytes ≤ other → page ≤ page_number slab.bytes other → page_number slab.bytes other < page + count → (page_number slab.bytes other ≡ page) ⊎ (page_number slab.bytes other ≢ page) → live_in_page (page_at slab.pages (page_number slab.bytes other)) (place_in_page slab.bytes other) ≡ 0
+    old_none other ne behind low high (inl e) =
+        let o = offset_is slab.bytes other behind in
+        let place_some : place_in_page slab.bytes other ≢ 0 = λ none. ne (o.0 ∙ ap (λ k. page_offset slab.bytes (page_number slab.bytes other) + k) none ∙ plus_none e) in
+        ap (λ n. live_in_page (page_at slab.pages n) (place_in_page slab.bytes other)) e
+        ∙ ap (λ t. live_in_page t (place_in_page slab.bytes other)) is
+        ∙ first_page (place_in_page slab.bytes other) place_some
+      where
+        plus_none : page_number slab.bytes other ≡ page → page_offset slab.bytes (page_number slab.bytes other) + 0 ≡ page_offset slab.bytes page
+        plus_none e = omega arith
+    old_none other ne behind low high (inr later) = ap (λ t. live_in_page t (place_in_page slab.bytes other)) ((s.used_runs.followed page count is).2 (page_number slab.bytes other) (omega (arith, later)) high)
+
+    agree : (other : ℕ) → other ≢ page_offset slab.bytes page → start_of slab.bytes ≤ other → page + count ≤ length slab.pages → Place (page_number slab.bytes other) page count → live_in_page (page_at (fill_pages Free page count slab.pages) (page_number slab.bytes other)) (place_in_page slab.bytes other) ≡ live_in_page (page_at slab.pages (page_number slab.bytes other)) (place_in_page slab.bytes other)
+    agree other ne behind room (out o) = ap (λ t. live_in_page t (place_in_page slab.bytes other)) (page_at-fill_out Free page count slab.pages (page_number slab.bytes other) o)
+    agree other ne behind room (within low high) =
+        ap (λ t. live_in_page t (place_in_page slab.bytes other)) (page_at-fill_in Free page count slab.pages (page_number slab.bytes other) room low high)
+        ∙ sym (old_none other ne behind low high (cases_eq (page_number slab.bytes other) page))
+
+give_in_page-returns : (slab : Slab) (class page index : ℕ) (used left : List ℕ) → IsSound slab → AreUsed class used → is_member index used ≡ true → page_at slab.pages page ≡ Class class used → without index used ≡ left → Returns slab (give_in_page slab page class used left) (block_offset slab.bytes page class index)
+give_in_page-returns slab class page index used [] s ok there is now =
+    Returns-page slab (give_in_page slab page class used []) class page index used Free ok.known refl refl (page_at-in slab.pages page (λ e. cc)) (ok.usable index there).1 is (λ place. sym (ap (λ l. live_in_page (Class class l) place) now ∙ live_none class place))
+give_in_page-returns slab class page index used (l ∷ ls) s ok there is now =
+    Returns-page slab (give_in_page slab page class used (l ∷ ls)) class page index used (Class class (l ∷ ls)) ok.known refl refl (page_at-in slab.pages page (λ e. cc)) (ok.usable index there).1 is (λ place. sym (ap (λ k. live_in_page (Class class k) place) now))
+
+returns_at : (slab : Slab) (at : ℕ) → IsSound slab → Lies slab at → Returns slab (give_back slab at) at
+returns_at slab at s (in_page page class used index is ok there at_is bytes) =
+    subst (λ (a : ℕ). Returns slab (give_back slab a) a) (sym at_is)
+      (subst (λ (t : Slab). Returns slab t (block_offset slab.bytes page class index)) (sym (give_back-class slab page class index used is ok there)) (give_in_page-returns slab class page index used (without index used) s ok there is refl))
+returns_at slab at s (over_pages page count is at_is bytes) =
+    subst (λ (a : ℕ). Returns slab (give_back slab a) a) (sym at_is)
+      (subst (λ (t : Slab). Returns slab t (page_offset slab.bytes page)) (sym (give_back-run slab page count is)) (Returns-run slab page count s is))
+
+pub give_back-returns : ReturnLaw
+give_back-returns slab at s live = returns_at slab at s (lies slab at s live)
+
+-- ---- where live blocks lie
+
+eights_of : (size index : ℕ) → 8 * (size / 8) ≡ size → (size * index) % 8 ≡ 0
+eights_of size index e = let h : size * index ≡ 8 * (size / 8 * index) = ap (λ k. k * index) (sym e) ∙ mul_assoc 8 (size / 8) index in omega (arith, h)
+
+lies_in_pages : (slab : Slab) (at : ℕ) → IsSound slab → Lies slab at → LiesInPages slab at
+lies_in_pages slab at s (in_page page class used index is ok there at_is bytes) =
+    let c = cuts class ok.known in
+    let z = zone slab.bytes s.large s.small in
+    let end = block_end (class_size class) index (blocks_in_page class) c.whole (ok.usable index there).1 in
+    let here = class_page-in slab class page used s is in
+    let even = eights_of (class_size class) index c.eights in
+    record {
+      low = omega (arith, at_is);
+      high = omega (arith, at_is, bytes, end, here);
+      even = omega (arith, at_is, z.eights, even);
+      words = omega (arith, bytes, c.eights);
+    }
+lies_in_pages slab at s (over_pages page count is at_is bytes) =
+    let z = zone slab.bytes s.large s.small in
+    let run = s.used_runs.followed page count is in
+    record {
+      low = omega (arith, at_is);
+      high = omega (arith, at_is, bytes, run.1);
+      even = omega (arith, at_is, z.eights);
+      words = omega (arith, bytes);
+    }
+
+-- of two blocks of one page
+in_one_page : (size i j : ℕ) → size * i < size * j → size * i + size ≤ size * j
+in_one_page size i j less = elim (cases_lt i j) [
+  | inl lt ↦ let next : i + 1 ≤ j = omega arith in let h = mul-le-mul_left size next in omega (arith, h)
+  | inr ge ↦ let h = mul-le-mul_left size ge in absurd (omega (arith, h))
+]
+
+-- the first of two live blocks ends before the second
+ends_before : (slab : Slab) (a b : ℕ) → IsSound slab → a < b → Lies slab a → Lies slab b → a + live_bytes slab a ≤ b
+ends_before slab a b s less (in_page page class used i is ok there a_is a_bytes) (in_page other own indexes j o_is o_ok o_there b_is b_bytes) =
+    let c = cuts class ok.known in
+    let d = cuts own o_ok.known in
+    let end = block_end (class_size class) i (blocks_in_page class) c.whole (ok.usable i there).1 in
+    let o_end = block_end (class_size own) j (blocks_in_page own) d.whole (o_ok.usable j o_there).1 in
+    elim (cases_order page other) [
+      | inl e ↦
+          let states : Class class used ≡ Class own indexes = sym is ∙ ap (λ k. page_at slab.pages k) e ∙ o_is in
+          let same : class ≡ own = cc in
+          let sizes : class_size class ≡ class_size own = ap class_size same in
+          let products : class_size own * j ≡ class_size class * j = ap (λ k. k * j) (sym sizes) in
+          let step = in_one_page (class_size class) i j (omega (arith, a_is, b_is, e, products)) in
+          omega (arith, a_is, b_is, a_bytes, e, products, step)
+      | inr ne ↦ elim ne [
+        | inl before ↦ omega (arith, a_is, b_is, a_bytes, end)
+        | inr after ↦ absurd (omega (arith, a_is, b_is, o_end, d.some))
+      ]
+    ]
+ends_before slab a b s less (in_page page class used i is ok there a_is a_bytes) (over_pages other count o_is b_is b_bytes) =
+    let c = cuts class ok.known in
+    let end = block_end (class_size class) i (blocks_in_page class) c.whole (ok.usable i there).1 in
+    elim (cases_order page other) [
+      | inl e ↦ let states : Class class used ≡ First count = sym is ∙ ap (λ k. page_at slab.pages k) e ∙ o_is in absurd (cc)
+      | inr ne ↦ elim ne [
+        | inl before ↦ omega (arith, a_is, b_is, a_bytes, end)
+        | inr after ↦ absurd (omega (arith, a_is, b_is))
+      ]
+    ]
+ends_before slab a b s less (over_pages page count is a_is a_bytes) (in_page other own indexes j o_is o_ok o_there b_is b_bytes) =
+    let d = cuts own o_ok.known in
+    let o_end = block_end (class_size own) j (blocks_in_page own) d.whole (o_ok.usable j o_there).1 in
+    let run = s.used_runs.followed page count is in
+    elim (cases_lt other (page + count)) [
+      | inl low ↦ elim (cases_order page other) [
+        | inl e ↦ let states : First count ≡ Class own indexes = sym is ∙ ap (λ k. page_at slab.pages k) e ∙ o_is in absurd (cc)
+        | inr ne ↦ elim ne [
+          | inl before ↦ let later = run.2 other before low in absurd (cc)
+          | inr after ↦ absurd (omega (arith, a_is, b_is, o_end, d.some))
+        ]
+      ]
+      | inr high ↦ omega (arith, a_is, b_is, a_bytes)
+    ]
+ends_before slab a b s less (over_pages page count is a_is a_bytes) (over_pages other n o_is b_is b_bytes) =
+    let run = s.used_runs.followed page count is in
+    elim (cases_lt other (page + count)) [
+      | inl low ↦ elim (cases_order page other) [
+        | inl e ↦ absurd (omega (arith, a_is, b_is, e))
+        | inr ne ↦ elim ne [
+          | inl before ↦ let later = run.2 other before low in absurd (cc)
+          | inr after ↦ absurd (omega (arith, a_is, b_is))
+        ]
+      ]
+      | inr high ↦ omega (arith, a_is, b_is, a_bytes)
+    ]
+
+pub blocks-law : BlocksLaw
+blocks-law slab s = (disjoint, λ at live. lies_in_pages slab at s (lies slab at s live)) where
+  disjoint : AreDisjoint slab
+  disjoint a b a_live b_live ne = elim (cases_order a b) [
+    | inl e ↦ absurd (ne e)
+    | inr other ↦ elim other [
+      | inl less ↦ inl (ends_before slab a b s less (lies slab a s a_live) (lies slab b s b_live))
+      | inr more ↦ inr (ends_before slab b a s more (lies slab b s b_live) (lies slab a s a_live))
+    ]
+  ]
