@@ -1,5 +1,7 @@
 pub mod Geometry
 pub mod Laws
 pub mod Numbers
+pub mod Pages
+pub mod Parts
 pub mod Runs
 pub mod Slab

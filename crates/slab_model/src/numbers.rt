@@ -44,10 +44,11 @@ impl Numbers {
     }
 
     /// Whether the number is in the list.
+    #[tactic(auto, using(crate::proofs::NumberLemmas::is_member_any))]
     pub fn contains(&self, n: u64) -> bool
         ensures { result ≡ is_member n self.now }
     {
-        self.kept.iter().any(|m| n == *m)
+        self.kept.contains(&n)
     }
 
     /// The list with the number before all others.
