@@ -1,21 +1,23 @@
 -- What the numbers of a sound slab are below, and what the code may read of it.
-use Rattle.std.proofs.Common.{ℕ, ◌≡◌, ◌≢◌, ◌+◌, ◌*◌, ◌^◌, ◌<◌, ◌≤◌, zero, suc, Bool, true, false, List, [], ◌∷◌, Option, Some, None, length, get_or, sym, ap, subst, ◌∙◌, refl, arith, inl, inr, eqb, cond}
+use Rattle.std.proofs.Common.{ℕ, ◌≡◌, ◌≢◌, ◌⊎◌, ◌+◌, ◌*◌, ◌/◌, ◌^◌, ◌<◌, ◌≤◌, zero, suc, Bool, true, false, List, [], ◌∷◌, Option, Some, None, length, get_or, sym, ap, subst, ◌∙◌, refl, arith, inl, inr, eqb, cond}
 use Rattle.std.specs.Prelude.{sum_by, All}
 use Rattle.std.proofs.Math.Nat.{mul-le-mul_left}
-use Rattle.std.proofs.lemmas.List.{get_or_default}
+use Rattle.std.proofs.lemmas.List.{get_or_default, get_or_past}
 use Rattle.std.proofs.lemmas.List.Sums.{sum_by-le}
-use Rattle.std.proofs.lemmas.Bool.{cases_Bool, cases_eq}
+use Rattle.std.proofs.lemmas.Bool.{cases_Bool, cases_eq, cases_lt}
 use Rattle.std.proofs.lemmas.Grind.{common_steps}
 use Rattle.slab_model.specs.declared.runs.Run.{Run}
 use Rattle.slab_model.specs.declared.page.PageState.{PageState}
 use Rattle.slab_model.specs.declared.page.PageState.TheVariants.{Free, First, Later, Class}
 use Rattle.slab_model.specs.Geometry.{start_of, pages_of, page_offset, block_offset, class_size, blocks_in_page, usable_blocks, first_index}
+use Rattle.slab_model.specs.Numbers.{without}
 use Rattle.slab_model.specs.Pages.{IsOfClass}
 use Rattle.slab_model.specs.Runs.{AreSound, first_fit, page_total}
-use Rattle.slab_model.specs.Slab.{Slab, IsSound, AreUsed, page_at, list_of, stat_of, used_in, lowest_unused, usable_in_class, used_in_class, free_pages}
+use Rattle.slab_model.specs.Slab.{Slab, IsSound, AreUsed, give_back, give_from, give_pages, give_in_page, page_number, place_in_page, live_in_page, IsLive, page_at, list_of, stat_of, used_in, lowest_unused, usable_in_class, used_in_class, free_pages}
 use Rattle.slab_model.proofs.ClassLemmas.{cuts, zone}
 use Rattle.slab_model.proofs.RunLemmas.{first_fit-in}
 use Rattle.slab_model.proofs.StateLemmas.{length-used, lowest-in}
+use Rattle.slab_model.proofs.BlockLemmas.{live_bytes-low, live_bytes-in}
 use Rattle.slab_model.proofs.SoundLemmas.{listed-is, class_page-in}
 
 usable_le : (class : ℕ) → class < 9 → (state : PageState) → usable_in_class class state ≤ 512
@@ -98,3 +100,41 @@ small_runs slab s = AreSound-small (pages_of slab.bytes) slab.runs (zone slab.by
 -- a run that fits lies in the pages
 pub fit_in : (slab : Slab) (count page : ℕ) → IsSound slab → first_fit count slab.runs ≡ Some page → (page + count ≤ length slab.pages) × (page + count ≤ 16384)
 fit_in slab count page s fit = let h = first_fit-in (pages_of slab.bytes) count slab.runs page s.runs fit in let z = zone slab.bytes s.large s.small in (omega (arith, h, s.page_count), omega (arith, h, z.many))
+
+-- a page of a class is one of the pages
+pub class_page : (slab : Slab) (page class : ℕ) (used : List ℕ) → IsSound slab → page_at slab.pages page ≡ Class class used → (page < length slab.pages) × (page < 16384) × (class < 9)
+class_page slab page class used s is =
+    let z = zone slab.bytes s.large s.small in
+    let here = class_page-in slab class page used s is in
+    (omega (arith, here, s.page_count), omega (arith, here, z.many), (s.used page class used is).known)
+
+-- a used run lies in the pages
+pub run_in : (slab : Slab) (page count : ℕ) → IsSound slab → page_at slab.pages page ≡ First count → (page + count ≤ length slab.pages) × (page + count ≤ 16384)
+run_in slab page count s is =
+    let z = zone slab.bytes s.large s.small in
+    let run = s.used_runs.followed page count is in
+    (omega (arith, run.1, s.page_count), omega (arith, run.1, z.many))
+
+-- what comes back, by what its page is
+pub back_run : (slab : Slab) (at page count : ℕ) → page ≡ page_number slab.bytes at → page_at slab.pages page ≡ First count → give_back slab at ≡ give_pages slab page count
+unfolding give_back
+back_run slab at page count e is =
+    ap (λ n. give_from slab n (place_in_page slab.bytes at) (page_at slab.pages n)) (sym e)
+    ∙ ap (λ t. give_from slab page (place_in_page slab.bytes at) t) is
+
+pub back_class : (slab : Slab) (at page class index : ℕ) (used : List ℕ) → page ≡ page_number slab.bytes at → index ≡ place_in_page slab.bytes at / class_size class → page_at slab.pages page ≡ Class class used → give_back slab at ≡ give_in_page slab page class used (without index used)
+unfolding give_back
+back_class slab at page class index used e i is =
+    ap (λ n. give_from slab n (place_in_page slab.bytes at) (page_at slab.pages n)) (sym e)
+    ∙ ap (λ t. give_from slab page (place_in_page slab.bytes at) t) is
+    ∙ ap (λ n. give_in_page slab page class used (without n used)) (sym i)
+
+-- the page of a live block is one of the pages
+pub live_page_in : (slab : Slab) (at page : ℕ) → page ≡ page_number slab.bytes at → IsLive slab at → page < length slab.pages
+live_page_in slab at page e live = elim (cases_lt page (length slab.pages)) [
+  | inl low ↦ low
+  | inr past ↦ absurd (none (cases_lt at (start_of slab.bytes)) (ap (λ k. page_at slab.pages k) (sym e) ∙ get_or_past slab.pages page Free past))
+] where
+  none : (at < start_of slab.bytes) ⊎ (start_of slab.bytes ≤ at) → page_at slab.pages (page_number slab.bytes at) ≡ Free → ⊥
+  none (inl low) free = let h = live_bytes-low slab at low in omega arith
+  none (inr behind) free = let h = live_bytes-in slab at behind ∙ ap (λ t. live_in_page t (place_in_page slab.bytes at)) free in omega arith

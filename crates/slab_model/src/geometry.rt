@@ -1,5 +1,5 @@
 ghost use Rattle.std.specs.Prelude.{◌≡◌, ℕ, ◌+◌, ◌*◌, ◌-◌, ◌/◌, ◌<◌, ◌≤◌};
-ghost use Rattle.slab_model.specs.Geometry.{pages_of, start_of, least_zone, greatest_zone, class_count, class_size as size_of_class, class_of as class_for, pages_for as whole_pages, blocks_in_page as blocks_of, first_index as first_of};
+ghost use Rattle.slab_model.specs.Geometry.{pages_of, start_of, least_zone, greatest_zone, class_count, class_size as size_of_class, class_of as class_for, pages_for as whole_pages, blocks_in_page as blocks_of, first_index as first_of, usable_blocks as usable_of};
 
 /// The bytes of a page.
 pub const PAGE_SIZE: u64 = 4096;
@@ -93,4 +93,13 @@ pub fn first_index(class: u32) -> u64
     } else {
         0
     }
+}
+
+/// The blocks of a class in a page that can be granted.
+#[tactic(auto, using(crate::proofs::ClassLemmas::first_below), unfolding(crate::specs::Geometry::usable_blocks))]
+pub fn usable_blocks(class: u32) -> u64
+    requires { class < class_count }
+    ensures { result ≡ usable_of class }
+{
+    blocks_in_page(class) - first_index(class)
 }

@@ -8,5 +8,7 @@ pub mod numbers;
 pub mod page;
 pub mod pages;
 pub mod parts;
+pub mod plain;
+pub mod returns;
 pub mod runs;
 pub mod stat;

@@ -29,6 +29,15 @@ impl Numbers {
         }
     }
 
+    /// This number alone.
+    pub fn one(alloc: Global, n: u64) -> Result<Numbers, NoMemory>
+        ensures { IfOk result (λ ns. ns ≡ n ∷ []) }
+    {
+        Ok(Numbers {
+            kept: vec![in alloc; n]?,
+        })
+    }
+
     /// The first number, if there is one.
     pub fn first(&self) -> Option<u64>
         ensures { MatchOption result (self.now ≡ []) (λ n. self.now ≡ n ∷ drop 1 self.now) }
