@@ -1,25 +1,24 @@
 -- Which live blocks a grant and a return change, and where live blocks lie.
-use Rattle.std.proofs.Common.{ℕ, ◌≡◌, ◌≢◌, ◌⊎◌, ◌+◌, ◌-◌, ◌*◌, ◌/◌, ◌%◌, ◌<◌, ◌≤◌, zero, suc, Bool, true, false, not, ◌&&◌, ◌||◌, List, [], ◌∷◌, Option, Some, None, length, set, get_or, replicate, sym, ap, subst, ◌∙◌, refl, arith, inl, inr, eqb, cond, mul_assoc, get_or-set_same, get_or-set_other}
+use Rattle.std.proofs.Common.{ℕ, ◌≡◌, ◌≢◌, ◌⊎◌, ◌+◌, ◌*◌, ◌/◌, ◌%◌, ◌<◌, ◌≤◌, true, false, List, [], ◌∷◌, Option, Some, None, length, set, replicate, sym, ap, subst, ◌∙◌, refl, arith, inl, inr, mul_assoc, get_or-set_same, get_or-set_other}
 use Rattle.std.proofs.Math.Nat.{mul-le-mul_left}
-use Rattle.std.proofs.lemmas.List.{length-set, length-replicate, get_or-replicate, get_or_past}
-use Rattle.std.proofs.lemmas.Bool.{cases_Bool, cases_eq, cases_lt, cases_order}
+use Rattle.std.proofs.lemmas.List.{length-replicate, get_or-replicate, get_or_past}
+use Rattle.std.proofs.lemmas.Bool.{cases_eq, cases_lt, cases_order}
 use Rattle.std.proofs.lemmas.Grind.{common_steps}
-use Rattle.slab_model.specs.declared.runs.Run.{Run}
 use Rattle.slab_model.specs.declared.page.PageState.{PageState}
-use Rattle.slab_model.specs.declared.page.PageState.TheVariants.{Free, First, Later, Class}
-use Rattle.slab_model.specs.Geometry.{page_size, start_of, pages_of, page_offset, block_offset, class_size, class_of, pages_for, blocks_in_page, first_index, usable_blocks}
+use Rattle.slab_model.specs.declared.page.PageState.TheVariants.{Free, First, Class}
+use Rattle.slab_model.specs.Geometry.{start_of, pages_of, page_offset, block_offset, class_size, class_of, pages_for, blocks_in_page, first_index}
 use Rattle.slab_model.specs.Numbers.{is_member, without}
 use Rattle.slab_model.specs.Runs.{first_fit}
-use Rattle.slab_model.specs.Slab.{Slab, page_at, list_of, opened, live_bytes, live_in_page, IsLive, page_number, place_in_page, AreUsed, IsSound, fill_pages, use_pages, is_full, lowest_unused, used_in, block_bytes, block_bytes_as, grant, grant_as, grant_run, grant_from_list, grant_in_page, grant_in_new_page, give_back, give_in_page, give_pages, free_pages}
+use Rattle.slab_model.specs.Slab.{Slab, page_at, list_of, opened, live_bytes, live_in_page, page_number, place_in_page, AreUsed, IsSound, fill_pages, use_pages, lowest_unused, used_in, block_bytes, block_bytes_as, grant, grant_as, grant_run, grant_from_list, grant_in_page, grant_in_new_page, give_back, give_in_page, give_pages}
 use Rattle.slab_model.specs.Laws.{AreDisjoint, LiesInPages, Grants, Returns, SameBlocks, OpenedLaw, GrantLaw, NoGrantLaw, ReturnLaw, BlocksLaw}
-use Rattle.slab_model.proofs.ClassLemmas.{cuts, zone, class_of-some, class_of-none, pages_for-holds}
+use Rattle.slab_model.proofs.ClassLemmas.{cuts, zone, class_of-some, pages_for-holds}
 use Rattle.slab_model.proofs.NumberLemmas.{is_member-without}
 use Rattle.slab_model.proofs.RunLemmas.{first_fit-in}
 use Rattle.slab_model.proofs.PageLemmas.{Place, place_of, page_at-fill_in, page_at-fill_out, page_at-use_out, page_at-use_first, page_at-use_later}
 use Rattle.slab_model.proofs.PageLemmas.Place.{out, within}
-use Rattle.slab_model.proofs.StateLemmas.{page_at-in, lowest-in, AreUsed-grant, AreUsed-one}
+use Rattle.slab_model.proofs.StateLemmas.{page_at-in, lowest-in}
 use Rattle.slab_model.proofs.SoundLemmas.{IsSound-opened, listed-is, fit_free, class_page-in}
-use Rattle.slab_model.proofs.BlockLemmas.{offset_is, page_number-is, place_in_page-is, live_bytes-low, live_bytes-in, live_bytes-at, live_of, live_not, live_more, live_less, live_none, block_end, Lies, lies}
+use Rattle.slab_model.proofs.BlockLemmas.{offset_is, live_bytes-low, live_bytes-in, live_bytes-at, live_of, live_not, live_more, live_less, live_none, block_end, Lies, lies}
 use Rattle.slab_model.proofs.BlockLemmas.Lies.{in_page, over_pages}
 use Rattle.slab_model.proofs.Laws.{give_back-class, give_back-run}
 
@@ -123,7 +122,7 @@ grant_from_list-grants slab class size at s known size_is (page ∷ rest) is giv
     let here = class_page-in slab class page used s l.0 in
     let at_is : block_offset slab.bytes page class (lowest_unused class used) ≡ at = cc in
     subst (λ (a : ℕ). Grants slab (grant_in_page slab class page rest used).1 size a) at_is
-      (Grants-page slab (grant_in_page slab class page rest used).1 class page (lowest_unused class used) size used known refl refl (omega (arith, here, s.page_count)) low.1 low.2 (λ place. ap (λ t. live_in_page t place) l.0) size_is)
+    (Grants-page slab (grant_in_page slab class page rest used).1 class page (lowest_unused class used) size used known refl refl (omega (arith, here, s.page_count)) low.1 low.2 (λ place. ap (λ t. live_in_page t place) l.0) size_is)
 grant_from_list-grants slab class size at s known size_is [] is given = new_page (first_fit 1 slab.runs) refl given where
   new_page : (fit : Option ℕ) → first_fit 1 slab.runs ≡ fit → (grant_in_new_page slab class fit).0 ≡ Some at → Grants slab (grant_in_new_page slab class fit).1 size at
   new_page None fit given = absurd (cc)
@@ -133,7 +132,7 @@ grant_from_list-grants slab class size at s known size_is [] is given = new_page
       let c = cuts class known in
       let at_is : block_offset slab.bytes page class (first_index class) ≡ at = cc in
       subst (λ (a : ℕ). Grants slab (grant_in_new_page slab class (Some page)).1 size a) at_is
-        (Grants-page slab (grant_in_new_page slab class (Some page)).1 class page (first_index class) size [] known refl refl (omega (arith, w, s.page_count)) (omega (arith, c.sum, c.two)) refl (λ place. ap (λ t. live_in_page t place) free ∙ sym (live_none class place)) size_is)
+      (Grants-page slab (grant_in_new_page slab class (Some page)).1 class page (first_index class) size [] known refl refl (omega (arith, w, s.page_count)) (omega (arith, c.sum, c.two)) refl (λ place. ap (λ t. live_in_page t place) free ∙ sym (live_none class place)) size_is)
 
 grant_run-grants : (slab : Slab) (count size at : ℕ) → IsSound slab → 0 < count → block_bytes size ≡ 4096 * count → (fit : Option ℕ) → first_fit count slab.runs ≡ fit → (grant_run slab count fit).0 ≡ Some at → Grants slab (grant_run slab count fit).1 size at
 grant_run-grants slab count size at s some size_is None fit given = absurd (cc)
@@ -259,10 +258,10 @@ give_in_page-returns slab class page index used (l ∷ ls) s ok there is now =
 returns_at : (slab : Slab) (at : ℕ) → IsSound slab → Lies slab at → Returns slab (give_back slab at) at
 returns_at slab at s (in_page page class used index is ok there at_is bytes) =
     subst (λ (a : ℕ). Returns slab (give_back slab a) a) (sym at_is)
-      (subst (λ (t : Slab). Returns slab t (block_offset slab.bytes page class index)) (sym (give_back-class slab page class index used is ok there)) (give_in_page-returns slab class page index used (without index used) s ok there is refl))
+    (subst (λ (t : Slab). Returns slab t (block_offset slab.bytes page class index)) (sym (give_back-class slab page class index used is ok there)) (give_in_page-returns slab class page index used (without index used) s ok there is refl))
 returns_at slab at s (over_pages page count is at_is bytes) =
     subst (λ (a : ℕ). Returns slab (give_back slab a) a) (sym at_is)
-      (subst (λ (t : Slab). Returns slab t (page_offset slab.bytes page)) (sym (give_back-run slab page count is)) (Returns-run slab page count s is))
+    (subst (λ (t : Slab). Returns slab t (page_offset slab.bytes page)) (sym (give_back-run slab page count is)) (Returns-run slab page count s is))
 
 pub give_back-returns : ReturnLaw
 give_back-returns slab at s live = returns_at slab at s (lies slab at s live)

@@ -1,19 +1,19 @@
 -- What the numbers of a sound slab are below, and what the code may read of it.
-use Rattle.std.proofs.Common.{ℕ, ◌≡◌, ◌≢◌, ◌⊎◌, ◌+◌, ◌*◌, ◌/◌, ◌^◌, ◌<◌, ◌≤◌, zero, suc, Bool, true, false, List, [], ◌∷◌, Option, Some, None, length, get_or, sym, ap, subst, ◌∙◌, refl, arith, inl, inr, eqb, cond}
-use Rattle.std.specs.Prelude.{sum_by, All}
+use Rattle.std.proofs.Common.{ℕ, ◌≡◌, ◌⊎◌, ◌+◌, ◌*◌, ◌/◌, ◌^◌, ◌<◌, ◌≤◌, zero, suc, List, [], ◌∷◌, Some, length, get_or, sym, ap, subst, ◌∙◌, refl, arith, inl, inr}
+use Rattle.std.specs.Prelude.{All}
 use Rattle.std.proofs.Math.Nat.{mul-le-mul_left}
 use Rattle.std.proofs.lemmas.List.{get_or_default, get_or_past}
 use Rattle.std.proofs.lemmas.List.Sums.{sum_by-le}
-use Rattle.std.proofs.lemmas.Bool.{cases_Bool, cases_eq, cases_lt}
+use Rattle.std.proofs.lemmas.Bool.{cases_lt}
 use Rattle.std.proofs.lemmas.Grind.{common_steps}
 use Rattle.slab_model.specs.declared.runs.Run.{Run}
 use Rattle.slab_model.specs.declared.page.PageState.{PageState}
 use Rattle.slab_model.specs.declared.page.PageState.TheVariants.{Free, First, Later, Class}
-use Rattle.slab_model.specs.Geometry.{start_of, pages_of, page_offset, block_offset, class_size, blocks_in_page, usable_blocks, first_index}
+use Rattle.slab_model.specs.Geometry.{start_of, pages_of, class_size, usable_blocks}
 use Rattle.slab_model.specs.Numbers.{without}
 use Rattle.slab_model.specs.Pages.{IsOfClass}
-use Rattle.slab_model.specs.Runs.{AreSound, first_fit, page_total}
-use Rattle.slab_model.specs.Slab.{Slab, IsSound, AreUsed, give_back, give_from, give_pages, give_in_page, page_number, place_in_page, live_in_page, IsLive, page_at, list_of, stat_of, used_in, lowest_unused, usable_in_class, used_in_class, free_pages}
+use Rattle.slab_model.specs.Runs.{AreSound, first_fit}
+use Rattle.slab_model.specs.Slab.{Slab, IsSound, AreUsed, give_back, give_from, give_pages, give_in_page, page_number, place_in_page, live_in_page, IsLive, page_at, list_of, stat_of, used_in, lowest_unused, usable_in_class, used_in_class}
 use Rattle.slab_model.proofs.ClassLemmas.{cuts, zone}
 use Rattle.slab_model.proofs.RunLemmas.{first_fit-in}
 use Rattle.slab_model.proofs.StateLemmas.{length-used, lowest-in}

@@ -1,23 +1,23 @@
 -- Free and used pages are all pages, and what was just granted comes back without a trace.
-use Rattle.std.proofs.Common.{ℕ, ◌≡◌, ◌≢◌, ◌⊎◌, ◌+◌, ◌-◌, ◌*◌, ◌<◌, ◌≤◌, zero, suc, min, max, Bool, true, false, not, ◌&&◌, ◌||◌, List, [], ◌∷◌, Option, Some, None, length, set, get_or, sym, ap, subst, ◌∙◌, refl, arith, inl, inr, eqb, cond, get_or-set_same, get_or-set_other}
-use Rattle.std.specs.Prelude.{count_by, sum_by}
+use Rattle.std.proofs.Common.{ℕ, ◌≡◌, ◌+◌, ◌-◌, ◌<◌, zero, suc, min, max, true, false, not, List, [], ◌∷◌, Option, Some, None, length, sym, ap, subst, ◌∙◌, refl, arith, inl, inr, cond, get_or-set_same}
+use Rattle.std.specs.Prelude.{count_by}
 use Rattle.std.proofs.lemmas.List.Sums.{sum_by-cons}
-use Rattle.std.proofs.lemmas.Bool.{cases_Bool, cases_eq, cases_lt, cases_order}
+use Rattle.std.proofs.lemmas.Bool.{cases_eq}
 use Rattle.std.proofs.lemmas.Grind.{common_steps}
 use Rattle.slab_model.specs.declared.runs.Run.{Run}
 use Rattle.slab_model.specs.declared.page.PageState.{PageState}
-use Rattle.slab_model.specs.declared.page.PageState.TheVariants.{Free, First, Later, Class}
-use Rattle.slab_model.specs.Geometry.{page_offset, block_offset, pages_of, class_size, class_of, pages_for, first_index}
+use Rattle.slab_model.specs.declared.page.PageState.TheVariants.{Free, Class}
+use Rattle.slab_model.specs.Geometry.{page_offset, block_offset, pages_of, class_of, pages_for, first_index}
 use Rattle.slab_model.specs.Numbers.{is_member, without}
 use Rattle.slab_model.specs.Runs.{AreSound, IsApart, is_covered, is_within, page_total, first_fit, take_run, give_run}
-use Rattle.slab_model.specs.Slab.{Slab, page_at, list_of, live_bytes, IsLive, AreUsed, IsSound, is_free, is_full, lowest_unused, used_in, use_pages, block_bytes, grant, grant_as, grant_run, grant_from_list, grant_in_page, grant_in_new_page, give_back, give_in_page, give_pages, free_pages, used_pages}
-use Rattle.slab_model.specs.Laws.{Grants, Returns, SameBlocks, PagesLaw, RoundTripLaw}
+use Rattle.slab_model.specs.Slab.{Slab, page_at, list_of, live_bytes, IsLive, IsSound, is_free, lowest_unused, used_in, grant, grant_as, grant_run, grant_from_list, grant_in_page, grant_in_new_page, give_back, give_in_page, free_pages}
+use Rattle.slab_model.specs.Laws.{PagesLaw, RoundTripLaw}
 use Rattle.slab_model.proofs.ClassLemmas.{class_of-some, pages_for-holds}
 use Rattle.slab_model.proofs.NumberLemmas.{without-none}
 use Rattle.slab_model.proofs.RunLemmas.{apart_covers, page_total-take, page_total-give, AreSound-take, first_fit-in, is_within-parts}
 use Rattle.slab_model.proofs.PageLemmas.{page_at-use_first}
 use Rattle.slab_model.proofs.StateLemmas.{lowest-in, AreUsed-grant, AreUsed-one}
-use Rattle.slab_model.proofs.SoundLemmas.{listed-is, fit_free, class_page-in}
+use Rattle.slab_model.proofs.SoundLemmas.{listed-is, class_page-in}
 use Rattle.slab_model.proofs.Laws.{grant-sound, give_back-class, give_back-run}
 use Rattle.slab_model.proofs.BlockLaws.{grant-grants, give_back-returns}
 

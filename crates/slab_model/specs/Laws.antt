@@ -1,7 +1,7 @@
 -- What holds of every sound slab, and of a grant and a return there.
-use Rattle.std.specs.Prelude.{ℕ, ◌≡◌, ◌≢◌, ◌+◌, ◌*◌, ◌%◌, ◌<◌, ◌≤◌, ◌⊎◌, Option, Some, None, is_some, sum_by}
-use Rattle.slab_model.specs.Geometry.{least_zone, greatest_zone, start_of, pages_of, page_offset, class_count, class_of, usable_blocks}
-use Rattle.slab_model.specs.Slab.{Slab, opened, grant, give_back, fits, block_bytes, live_bytes, IsLive, IsSound, free_pages, used_pages, stat_of, one_more}
+use Rattle.std.specs.Prelude.{ℕ, ◌≡◌, ◌≢◌, ◌+◌, ◌%◌, ◌<◌, ◌≤◌, ◌⊎◌, Some, None, is_some}
+use Rattle.slab_model.specs.Geometry.{least_zone, greatest_zone, start_of, pages_of, page_offset}
+use Rattle.slab_model.specs.Slab.{Slab, opened, grant, give_back, fits, block_bytes, live_bytes, IsLive, IsSound, free_pages, used_pages}
 
 -- ---- the live blocks
 

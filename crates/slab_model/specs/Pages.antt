@@ -1,5 +1,4 @@
 -- A page of a class, as the code meets it.
-use Rattle.std.specs.Prelude.{ℕ, ◌≡◌, List}
 use Rattle.slab_model.specs.declared.page.PageState.{PageState}
 use Rattle.slab_model.specs.declared.page.PageState.TheVariants.{Free, First, Later, Class}
 

@@ -1,5 +1,5 @@
 -- What the plain program keeps, as a slab.
-use Rattle.std.specs.Prelude.{ℕ, List, Option, Some, None}
+use Rattle.std.specs.Prelude.{ℕ, Option, Some, None}
 use Rattle.slab_model.specs.declared.parts.Parts.{Parts}
 use Rattle.zone_region.specs.declared.blocks.Block.{Block}
 use Rattle.slab_model.specs.Slab.{Slab}

@@ -5,7 +5,9 @@ ghost use Rattle.slab_model.specs.Runs.{first_fit as fit_of};
 ghost use Rattle.slab_model.specs.Slab.{Slab, IsSound, list_of, page_at, used_in, grant_in_page as granted_in_page, grant_in_new_page as granted_in_new_page, grant_from_list, grant_run as granted_run, grant as granted};
 
 use crate::counts::{count_fail, count_grant};
-use crate::geometry::{PAGE_SIZE, class_of, class_size, first_index, pages_for, start_offset, usable_blocks};
+use crate::geometry::{
+    PAGE_SIZE, class_of, class_size, first_index, pages_for, start_offset, usable_blocks,
+};
 use crate::numbers::Numbers;
 use crate::page::PageState;
 use crate::pages::{indexes, is_full, lowest_unused, use_pages};
@@ -50,7 +52,11 @@ fn grant_in_page(parts: &mut Parts, alloc: Global, class: u32, page: u64) -> Res
 }
 
 /// Grants the first block of a free page, which becomes the class's only listed page; counts a failure where no page is free.
-fn grant_in_new_page(parts: &mut Parts, alloc: Global, class: u32) -> Result<Option<Block>, NoMemory>
+fn grant_in_new_page(
+    parts: &mut Parts,
+    alloc: Global,
+    class: u32,
+) -> Result<Option<Block>, NoMemory>
     requires sound { IsSound (slab_of parts.old) }
     requires class { class < class_count }
     ensures ok { IfOk result (λ b. (offset_of b, slab_of parts.new) ≡ granted_in_new_page (slab_of parts.old) class (fit_of 1 parts.old.runs.items)) }

@@ -12,3 +12,4 @@ pub mod plain;
 pub mod returns;
 pub mod runs;
 pub mod stat;
+pub mod theorems;

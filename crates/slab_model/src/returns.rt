@@ -52,7 +52,13 @@ fn give_last(parts: &mut Parts, alloc: Global, page: u64, class: u32) -> Result<
 }
 
 /// Gives a block of a page of the class back.
-fn give_in_page(parts: &mut Parts, alloc: Global, page: u64, class: u32, index: u64) -> Result<(), NoMemory>
+fn give_in_page(
+    parts: &mut Parts,
+    alloc: Global,
+    page: u64,
+    class: u32,
+    index: u64,
+) -> Result<(), NoMemory>
     requires sound { IsSound (slab_of parts.old) }
     requires class { page_at parts.old.pages.items page ≡ Class class (used_in (page_at parts.old.pages.items page)) }
     ensures ok { OnOk result (slab_of parts.new ≡ given_in_page (slab_of parts.old) page class (used_in (page_at parts.old.pages.items page)) (without index (used_in (page_at parts.old.pages.items page)))) }

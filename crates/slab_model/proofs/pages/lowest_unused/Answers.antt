@@ -2,10 +2,10 @@ use Rattle.std.proofs.Common.{◌≡◌, ◌+◌, ◌-◌, sym, ap, ◌∙◌, a
 use Rattle.std.proofs.Common.{true}
 use Rattle.std.proofs.lemmas.Grind.{common_steps}
 use Rattle.slab_model.specs.Numbers.{is_member}
-use Rattle.slab_model.specs.Geometry.{first_index, usable_blocks, blocks_in_page}
+use Rattle.slab_model.specs.Geometry.{usable_blocks}
 use Rattle.slab_model.specs.Slab.{first_unused}
 use Rattle.slab_model.proofs.ClassLemmas.{cuts}
-use Rattle.slab_model.proofs.Steps.{unused_step, unused_here, unused_done}
+use Rattle.slab_model.proofs.Steps.{unused_step, unused_done}
 use Rattle.slab_model.proofs.pages.lowest_unused.Goals as goal
 
 pub loop-index-init : goal.loop-index-init

@@ -1,4 +1,4 @@
-use Rattle.std.proofs.Common.{◌≡◌, ◌+◌, ◌++◌, ◌∷◌, [], drop, take, cond}
+use Rattle.std.proofs.Common.{◌≡◌, drop}
 use Rattle.slab_model.specs.Runs.{first_fit}
 use Rattle.slab_model.proofs.runs.first_fit.Given as goal
 

@@ -1,4 +1,4 @@
-use Rattle.std.proofs.Common.{◌≡◌, ◌+◌, ◌++◌, ◌∷◌, [], drop, not, take, cond}
+use Rattle.std.proofs.Common.{◌≡◌, ◌++◌, drop, not}
 use Rattle.std.specs.Prelude.{filter}
 use Rattle.slab_model.specs.Runs.{give_run, is_beside}
 use Rattle.slab_model.proofs.runs.give_run.Given as goal

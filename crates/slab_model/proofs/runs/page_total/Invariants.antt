@@ -1,4 +1,4 @@
-use Rattle.std.proofs.Common.{◌≡◌, ◌+◌, ◌++◌, ◌∷◌, [], drop, take, cond}
+use Rattle.std.proofs.Common.{◌≡◌, ◌+◌, drop}
 use Rattle.slab_model.specs.Runs.{page_total}
 use Rattle.slab_model.proofs.runs.page_total.Given as goal
 

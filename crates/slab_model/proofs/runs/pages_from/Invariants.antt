@@ -1,4 +1,4 @@
-use Rattle.std.proofs.Common.{◌≡◌, ◌+◌, ◌++◌, ◌∷◌, [], drop, take, cond}
+use Rattle.std.proofs.Common.{◌≡◌, drop}
 use Rattle.slab_model.specs.Runs.{pages_from}
 use Rattle.slab_model.proofs.runs.pages_from.Given as goal
 

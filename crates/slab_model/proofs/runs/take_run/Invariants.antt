@@ -1,4 +1,4 @@
-use Rattle.std.proofs.Common.{◌≡◌, ◌+◌, ◌++◌, ◌∷◌, [], drop, take, cond}
+use Rattle.std.proofs.Common.{◌≡◌, ◌++◌, drop, cond}
 use Rattle.slab_model.specs.Runs.{take_run}
 use Rattle.slab_model.proofs.runs.take_run.Given as goal
 

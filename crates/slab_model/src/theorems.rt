@@ -1,0 +1,15 @@
+ghost use Rattle.slab_model.specs.Laws.{OpenedLaw, GrantSoundLaw, ReturnSoundLaw, GrantLaw, NoGrantLaw, ReturnLaw, BlocksLaw, PagesLaw, RoundTripLaw, FitsLaw};
+
+/// What holds of every slab, as theorems over the definitions. Nothing runs.
+pub fn laws()
+    ensures opened { OpenedLaw }
+    ensures grant_sound { GrantSoundLaw }
+    ensures return_sound { ReturnSoundLaw }
+    ensures grants { GrantLaw }
+    ensures no_grant { NoGrantLaw }
+    ensures returns { ReturnLaw }
+    ensures blocks { BlocksLaw }
+    ensures pages { PagesLaw }
+    ensures round_trip { RoundTripLaw }
+    ensures fits { FitsLaw }
+{}
