@@ -11,7 +11,7 @@ use Rattle.slab_model.specs.declared.page.PageState.{PageState}
 use Rattle.slab_model.specs.declared.page.PageState.TheVariants.{Free, First, Later, Class}
 use Rattle.slab_model.specs.Geometry.{start_of, pages_of, class_size, usable_blocks}
 use Rattle.slab_model.specs.Numbers.{without}
-use Rattle.slab_model.specs.Pages.{IsOfClass}
+use Rattle.slab_model.specs.Pages.{IsOfClass, IsSmallPage}
 use Rattle.slab_model.specs.Runs.{AreSound, first_fit}
 use Rattle.slab_model.specs.Slab.{Slab, IsSound, AreUsed, give_back, give_from, give_pages, give_in_page, page_number, place_in_page, live_in_page, IsLive, page_at, list_of, stat_of, used_in, lowest_unused, usable_in_class, used_in_class}
 use Rattle.slab_model.proofs.ClassLemmas.{cuts, zone}
@@ -138,3 +138,13 @@ live_page_in slab at page e live = elim (cases_lt page (length slab.pages)) [
   none : (at < start_of slab.bytes) ⊎ (start_of slab.bytes ≤ at) → page_at slab.pages (page_number slab.bytes at) ≡ Free → ⊥
   none (inl low) free = let h = live_bytes-low slab at low in omega arith
   none (inr behind) free = let h = live_bytes-in slab at behind ∙ ap (λ t. live_in_page t (place_in_page slab.bytes at)) free in omega arith
+
+-- the numbers that a page of a sound slab keeps are small
+small_state : (slab : Slab) (page : ℕ) → IsSound slab → (state : PageState) → page_at slab.pages page ≡ state → IsSmallPage state
+small_state slab page s Free is = tt
+small_state slab page s (First count) is = let z = zone slab.bytes s.large s.small in let run = s.used_runs.followed page count is in omega (arith, run.1, z.many)
+small_state slab page s Later is = tt
+small_state slab page s (Class class used) is = (s.used page class used is).known
+
+pub small_page : (slab : Slab) (page : ℕ) (d : PageState) → IsSound slab → page < length slab.pages → IsSmallPage (get_or slab.pages page d)
+small_page slab page d s low = subst (λ (t : PageState). IsSmallPage t) (get_or_default slab.pages page Free d low) (small_state slab page s (page_at slab.pages page) refl)

@@ -4,6 +4,7 @@
 pub mod counts;
 pub mod geometry;
 pub mod grants;
+pub mod live;
 pub mod numbers;
 pub mod page;
 pub mod pages;
@@ -12,4 +13,6 @@ pub mod plain;
 pub mod returns;
 pub mod runs;
 pub mod stat;
+#[cfg(test)]
+mod tests;
 pub mod theorems;

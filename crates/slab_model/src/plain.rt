@@ -1,10 +1,11 @@
 ghost use Rattle.std.specs.Prelude.{◌≡◌, ◌<◌, ◌≤◌, [], replicate, IfOk, OnOk, OnErr};
 ghost use Rattle.slab_model.specs.Geometry.{least_zone, greatest_zone, class_count};
 ghost use Rattle.slab_model.specs.Parts.{offset_of, slab_of};
-ghost use Rattle.slab_model.specs.Slab.{no_stat, opened, grant as granted, give_back as given_back, IsLive, IsSound, free_pages as free_pages_of, stat_of};
+ghost use Rattle.slab_model.specs.Slab.{no_stat, opened, grant as granted, give_back as given_back, IsLive, IsSound, free_pages as free_pages_of, live_bytes as live_bytes_of, stat_of};
 
 use crate::geometry::{CLASS_COUNT, page_count};
 use crate::grants::grant;
+use crate::live::live_bytes;
 use crate::numbers::Numbers;
 use crate::pages::free_pages;
 use crate::parts::Parts;
@@ -116,6 +117,13 @@ impl PlainSlab {
         ensures sound { IsSound self.new }
     {
         give_back(&mut self.parts, alloc, block.at)
+    }
+
+    /// The bytes of the live block that begins there, 0 where none does.
+    pub fn live_bytes(&self, block: Block) -> u64
+        ensures { result ≡ live_bytes_of self.now block.at }
+    {
+        live_bytes(&self.parts, block.at)
     }
 
     /// The number of free pages.

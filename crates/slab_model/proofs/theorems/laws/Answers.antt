@@ -1,6 +1,7 @@
 use Rattle.slab_model.proofs.Laws.{grant-sound, give_back-sound, fits-grant}
 use Rattle.slab_model.proofs.BlockLaws.{opened-law, grant-grants, grant-none, give_back-returns, blocks-law}
 use Rattle.slab_model.proofs.CountLaws.{pages-law, round_trip-law}
+use Rattle.slab_model.proofs.RequestLaws.{requests-law, return_counts-law}
 use Rattle.slab_model.proofs.theorems.laws.Goals as goal
 
 pub returns : goal.returns
@@ -15,4 +16,6 @@ returns c = record {
   pages = pages-law;
   round_trip = round_trip-law;
   fits = fits-grant;
+  requests = requests-law;
+  return_counts = return_counts-law;
 }
