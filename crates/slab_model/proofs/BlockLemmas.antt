@@ -1,17 +1,16 @@
 -- The live blocks: where they lie, and which of them a call changes.
-use Rattle.std.proofs.Common.{ℕ, ◌≡◌, ◌≢◌, ◌⊎◌, ◌+◌, ◌-◌, ◌*◌, ◌/◌, ◌%◌, ◌<◌, ◌≤◌, zero, suc, Bool, true, false, not, ◌&&◌, ◌||◌, List, [], ◌∷◌, Option, Some, None, length, set, get_or, sym, ap, subst, ◌∙◌, refl, arith, inl, inr, eqb, cond, get_or-set_same, get_or-set_other}
+use Rattle.std.proofs.Common.{ℕ, ◌≡◌, ◌≢◌, ◌⊎◌, ◌+◌, ◌*◌, ◌/◌, ◌%◌, ◌<◌, ◌≤◌, true, false, List, [], ◌∷◌, sym, ap, ◌∙◌, refl, arith, inl, inr}
 use Rattle.std.proofs.Math.Nat.{mul-le-mul_left}
-use Rattle.std.proofs.lemmas.Nat.{div-add-mod', div-mul-add, mod-mul-add, mul-add-lt}
-use Rattle.std.proofs.lemmas.Bool.{cases_Bool, cases_eq, cases_lt, cases_order}
+use Rattle.std.proofs.lemmas.Nat.{div-add-mod', div-mul-add, mod-mul-add}
+use Rattle.std.proofs.lemmas.Bool.{cases_Bool, cases_eq, cases_lt}
 use Rattle.std.proofs.lemmas.Grind.{common_steps}
 use Rattle.slab_model.specs.declared.page.PageState.{PageState}
 use Rattle.slab_model.specs.declared.page.PageState.TheVariants.{Free, First, Later, Class}
-use Rattle.slab_model.specs.Geometry.{page_size, start_of, pages_of, page_offset, block_offset, class_size, blocks_in_page, first_index}
+use Rattle.slab_model.specs.Geometry.{start_of, page_offset, block_offset, class_size}
 use Rattle.slab_model.specs.Numbers.{is_member, without}
 use Rattle.slab_model.specs.Slab.{Slab, page_at, live_bytes, live_in_page, IsLive, page_number, place_in_page, AreUsed, IsSound}
-use Rattle.slab_model.proofs.ClassLemmas.{cuts, zone}
+use Rattle.slab_model.proofs.ClassLemmas.{cuts}
 use Rattle.slab_model.proofs.NumberLemmas.{is_member-without}
-use Rattle.slab_model.proofs.StateLemmas.{page_at-in}
 
 -- an offset behind the start is that of a place in a page
 pub offset_is : (bytes at : ℕ) → start_of bytes ≤ at → (at ≡ page_offset bytes (page_number bytes at) + place_in_page bytes at) × (place_in_page bytes at < 4096)

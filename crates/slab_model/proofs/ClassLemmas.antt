@@ -68,3 +68,13 @@ zone bytes large small = record {
   pages = omega arith;
   many = omega arith;
 }
+
+-- the same in names that code can cite
+pub class_known : (size class : ℕ) → class_of size ≡ Some class → class < 9
+class_known size class is = (class_of-some size class is).0
+
+pub pages_some : (size : ℕ) → 0 < size → 0 < pages_for size
+pages_some size some = (pages_for-holds size some).0
+
+pub first_below : (class : ℕ) → class < 9 → first_index class ≤ blocks_in_page class
+first_below class known = let c = cuts class known in omega (arith, c.sum)

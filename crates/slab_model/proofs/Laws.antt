@@ -1,28 +1,17 @@
 -- The laws of the slab.
-use Rattle.std.proofs.Common.{ℕ, ◌≡◌, ◌≢◌, ◌⊎◌, ◌+◌, ◌-◌, ◌*◌, ◌/◌, ◌%◌, ◌<◌, ◌≤◌, zero, suc, Bool, true, false, not, ◌&&◌, ◌||◌, List, [], ◌∷◌, Option, Some, None, length, set, get_or, replicate, sym, ap, subst, ◌∙◌, refl, arith, inl, inr, eqb, cond, get_or-set_same, get_or-set_other}
-use Rattle.std.specs.Prelude.{is_some, count_by}
-use Rattle.std.proofs.Math.Nat.{mul-le-mul_left}
+use Rattle.std.proofs.Common.{ℕ, ◌≡◌, ◌*◌, ◌/◌, ◌<◌, true, not, ◌||◌, List, [], ◌∷◌, Option, Some, None, sym, ap, subst, ◌∙◌, refl, arith}
+use Rattle.std.specs.Prelude.{is_some}
 use Rattle.std.proofs.lemmas.Nat.{div-mul-add}
-use Rattle.std.proofs.lemmas.List.{length-set, length-replicate, get_or-replicate, get_or_past}
-use Rattle.std.proofs.lemmas.List.Sums.{sum_by-cons}
-use Rattle.std.proofs.lemmas.Bool.{cases_Bool, cases_eq, cases_lt, cases_order, eqb-true, eqb-false}
 use Rattle.std.proofs.lemmas.Grind.{common_steps}
-use Rattle.slab_model.specs.declared.runs.Run.{Run}
-use Rattle.slab_model.specs.declared.page.PageState.{PageState}
-use Rattle.slab_model.specs.declared.page.PageState.TheVariants.{Free, First, Later, Class}
-use Rattle.slab_model.specs.Geometry.{page_size, start_of, pages_of, page_offset, block_offset, class_size, class_of, pages_for, blocks_in_page, first_index, usable_blocks}
+use Rattle.slab_model.specs.declared.page.PageState.TheVariants.{First, Class}
+use Rattle.slab_model.specs.Geometry.{page_offset, block_offset, class_size, class_of, pages_for, blocks_in_page}
 use Rattle.slab_model.specs.Numbers.{is_member, without}
-use Rattle.slab_model.specs.Runs.{AreSound, is_covered, is_within, page_total, first_fit, take_run, give_run}
-use Rattle.slab_model.specs.Slab.{Slab, page_at, list_of, stat_of, opened, live_bytes, live_in_page, IsLive, page_number, place_in_page, AreUsed, IsSound, HasUsedRuns, fill_pages, use_pages, is_free, is_full, lowest_unused, used_in, block_bytes, block_bytes_as, grant, grant_as, grant_run, grant_from_list, grant_in_page, grant_in_new_page, give_back, give_from, give_in_page, give_pages, fits, fits_as, is_empty, free_pages, used_pages, count_grant, count_return}
-use Rattle.slab_model.specs.Laws.{AreDisjoint, LiesInPages, Grants, Returns, SameBlocks, OpenedLaw, GrantSoundLaw, ReturnSoundLaw, GrantLaw, NoGrantLaw, ReturnLaw, BlocksLaw, PagesLaw, RoundTripLaw, FitsLaw}
-use Rattle.slab_model.proofs.ClassLemmas.{cuts, zone, class_of-some, class_of-none, pages_for-holds}
-use Rattle.slab_model.proofs.NumberLemmas.{is_member-without, without-none}
-use Rattle.slab_model.proofs.RunLemmas.{page_total-take, page_total-give, AreSound-take, first_fit-in}
-use Rattle.slab_model.proofs.PageLemmas.{Place, place_of, page_at-fill_in, page_at-fill_out, page_at-use_out, page_at-use_first, page_at-use_later}
-use Rattle.slab_model.proofs.PageLemmas.Place.{out, within}
-use Rattle.slab_model.proofs.StateLemmas.{is_free-is, page_at-in, lowest-in, AreUsed-grant}
-use Rattle.slab_model.proofs.SoundLemmas.{IsSound-opened, IsSound-in_page, IsSound-failed, IsSound-new_page, IsSound-run, IsSound-give_pages, IsSound-give_in_page, listed-is, fit_free, class_page-in}
-use Rattle.slab_model.proofs.BlockLemmas.{offset_is, page_number-is, place_in_page-is, live_bytes-low, live_bytes-in, live_bytes-at, live_of, live_not, live_more, live_less, live_none, block_end, Lies, lies}
+use Rattle.slab_model.specs.Runs.{first_fit}
+use Rattle.slab_model.specs.Slab.{Slab, page_at, list_of, page_number, place_in_page, AreUsed, IsSound, grant, grant_as, grant_run, grant_from_list, grant_in_new_page, give_back, give_from, give_in_page, give_pages, fits, fits_as, is_empty}
+use Rattle.slab_model.specs.Laws.{GrantSoundLaw, ReturnSoundLaw, FitsLaw}
+use Rattle.slab_model.proofs.ClassLemmas.{cuts, class_of-some, pages_for-holds}
+use Rattle.slab_model.proofs.SoundLemmas.{IsSound-in_page, IsSound-failed, IsSound-new_page, IsSound-run, IsSound-give_pages, IsSound-give_in_page}
+use Rattle.slab_model.proofs.BlockLemmas.{page_number-is, place_in_page-is, block_end, Lies, lies}
 use Rattle.slab_model.proofs.BlockLemmas.Lies.{in_page, over_pages}
 
 -- ---- grant keeps soundness

@@ -2,6 +2,7 @@
 use Rattle.std.proofs.Common.{ℕ, ◌≡◌, ◌+◌, ◌<◌, ◌≤◌, zero, suc, true, false, not, ◌&&◌, List, [], ◌∷◌, length, refl, arith, eqb, inl, inr}
 use Rattle.std.proofs.lemmas.Bool.{cases_Bool}
 use Rattle.std.proofs.lemmas.Grind.{common_steps}
+use Rattle.std.specs.List.{list_any}
 use Rattle.slab_model.specs.Numbers.{is_member, IsDistinct, without}
 use Rattle.slab_model.specs.Slab.{first_unused}
 
@@ -55,3 +56,8 @@ first_unused-unused (suc count) index used low = let ih = first_unused-unused co
 pub first_unused-below : (count index i : ℕ) (used : List ℕ) → index ≤ i → i < first_unused count index used → is_member i used ≡ true
 first_unused-below zero index i used low high = absurd (omega arith)
 first_unused-below (suc count) index i used low high = let ih = first_unused-below count (index + 1) i used in grind (arith, common_steps, ih)
+
+-- membership as std's search for one element
+pub is_member_any : (n : ℕ) (ns : List ℕ) → is_member n ns ≡ list_any (λ m. eqb m n) ns
+is_member_any n [] = refl
+is_member_any n (m ∷ ms) = let ih = is_member_any n ms in grind (arith, common_steps, ih)

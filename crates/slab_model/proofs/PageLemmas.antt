@@ -1,11 +1,11 @@
 -- The pages of a slab once some of them change.
-use Rattle.std.proofs.Common.{ℕ, ◌≡◌, ◌≢◌, ◌⊎◌, ◌+◌, ◌-◌, ◌<◌, ◌≤◌, zero, suc, Bool, true, false, not, ◌&&◌, ◌||◌, List, [], ◌∷◌, length, set, get_or, sym, ap, subst, ◌∙◌, refl, arith, inl, inr, get_or-set_same, get_or-set_other}
+use Rattle.std.proofs.Common.{ℕ, ◌≡◌, ◌≢◌, ◌⊎◌, ◌+◌, ◌-◌, ◌<◌, ◌≤◌, zero, suc, not, List, length, set, sym, ap, ◌∙◌, refl, arith, inl, inr, get_or-set_same, get_or-set_other}
 use Rattle.std.proofs.lemmas.List.{length-set}
-use Rattle.std.proofs.lemmas.Bool.{cases_Bool, cases_eq, cases_lt}
+use Rattle.std.proofs.lemmas.Bool.{cases_eq, cases_lt}
 use Rattle.std.proofs.lemmas.Grind.{common_steps}
 use Rattle.slab_model.specs.declared.page.PageState.{PageState}
 use Rattle.slab_model.specs.declared.page.PageState.TheVariants.{Free, First, Later, Class}
-use Rattle.slab_model.specs.Slab.{page_at, fill_pages, use_pages, is_free, HasUsedRuns}
+use Rattle.slab_model.specs.Slab.{page_at, fill_pages, use_pages, HasUsedRuns}
 
 pub length-fill : (state : PageState) (page count : ℕ) (pages : List PageState) → length (fill_pages state page count pages) ≡ length pages
 length-fill state page zero pages = refl

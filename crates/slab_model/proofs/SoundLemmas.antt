@@ -1,24 +1,24 @@
 -- Grant and give back keep a slab sound.
-use Rattle.std.proofs.Common.{ℕ, ◌≡◌, ◌≢◌, ◌⊎◌, ◌+◌, ◌-◌, ◌*◌, ◌/◌, ◌^◌, ◌<◌, ◌≤◌, zero, suc, Bool, true, false, not, ◌&&◌, ◌||◌, List, [], ◌∷◌, Option, Some, None, length, set, get_or, replicate, sym, ap, subst, ◌∙◌, refl, arith, inl, inr, eqb, cond, get_or-set_same, get_or-set_other}
+use Rattle.std.proofs.Common.{ℕ, ◌≡◌, ◌≢◌, ◌⊎◌, ◌+◌, ◌-◌, ◌^◌, ◌<◌, ◌≤◌, zero, suc, Bool, true, false, not, ◌&&◌, ◌||◌, List, [], ◌∷◌, Some, None, length, set, get_or, replicate, sym, ap, subst, ◌∙◌, refl, arith, inl, inr, cond, get_or-set_same, get_or-set_other}
 use Rattle.std.proofs.lemmas.List.{length-set, length-replicate, get_or-replicate, get_or_past}
 use Rattle.std.proofs.lemmas.List.Sums.{sum_by-set, sum_by-cons, get_or-le-sum_by}
-use Rattle.std.proofs.lemmas.Bool.{cases_Bool, cases_eq, cases_lt, eqb-true, eqb-false}
+use Rattle.std.proofs.lemmas.Bool.{cases_eq, cases_lt}
 use Rattle.std.proofs.lemmas.Grind.{common_steps}
 use Rattle.std.specs.Prelude.{sum_by}
 use Rattle.slab_model.specs.declared.runs.Run.{Run}
 use Rattle.slab_model.specs.declared.stat.Stat.{Stat}
 use Rattle.slab_model.specs.declared.page.PageState.{PageState}
 use Rattle.slab_model.specs.declared.page.PageState.TheVariants.{Free, First, Later, Class}
-use Rattle.slab_model.specs.Geometry.{first_index, usable_blocks, blocks_in_page, pages_of, class_of, pages_for, class_size}
+use Rattle.slab_model.specs.Geometry.{first_index, usable_blocks, pages_of}
 use Rattle.slab_model.specs.Numbers.{is_member, IsDistinct, without}
 use Rattle.slab_model.specs.Runs.{AreSound, is_covered, is_within, take_run, give_run, first_fit}
-use Rattle.slab_model.specs.Slab.{Slab, no_stat, page_at, list_of, stat_of, fill_pages, use_pages, is_free, is_full, lowest_unused, used_in, has_room, usable_in_class, used_in_class, AreUsed, HasUsedRuns, Lists, Counts, IsSound, count_grant, count_fail, count_return, one_more, grant, grant_as, grant_run, grant_from_list, grant_in_page, grant_in_new_page, give_back, give_from, give_in_page, give_pages, opened, live_bytes, live_in_page, IsLive, page_number, place_in_page}
-use Rattle.slab_model.proofs.ClassLemmas.{cuts, zone, class_of-some, class_of-none, pages_for-holds}
-use Rattle.slab_model.proofs.NumberLemmas.{is_member-without, IsDistinct-without, length-without, without-none}
-use Rattle.slab_model.proofs.RunLemmas.{AreSound-take, AreSound-give, is_covered-take, is_covered-give, first_fit-covered, first_fit-in, IsFree, is_within-in, is_within-not}
-use Rattle.slab_model.proofs.PageLemmas.{NotInRun, Free-NotInRun, Class-NotInRun, HasUsedRuns-set, HasUsedRuns-use, HasUsedRuns-free, length-fill, length-use, page_at-fill_in, page_at-fill_out, page_at-use_out, page_at-use_first, page_at-use_later, Place, place_of}
+use Rattle.slab_model.specs.Slab.{Slab, no_stat, page_at, list_of, stat_of, fill_pages, use_pages, is_free, is_full, lowest_unused, used_in, has_room, usable_in_class, used_in_class, AreUsed, HasUsedRuns, Lists, Counts, IsSound, count_grant, count_fail, count_return, grant_run, grant_in_page, grant_in_new_page, give_in_page, give_pages, opened}
+use Rattle.slab_model.proofs.ClassLemmas.{zone}
+use Rattle.slab_model.proofs.NumberLemmas.{is_member-without, IsDistinct-without, length-without}
+use Rattle.slab_model.proofs.RunLemmas.{AreSound-take, AreSound-give, is_covered-take, is_covered-give, first_fit-covered, first_fit-in, is_within-in, is_within-not}
+use Rattle.slab_model.proofs.PageLemmas.{NotInRun, Free-NotInRun, Class-NotInRun, HasUsedRuns-set, HasUsedRuns-use, HasUsedRuns-free, length-fill, page_at-fill_in, page_at-fill_out, page_at-use_out, page_at-use_first, page_at-use_later, Place, place_of}
 use Rattle.slab_model.proofs.PageLemmas.Place.{out, within}
-use Rattle.slab_model.proofs.StateLemmas.{is_free-is, page_at-in, has_room-is, has_room-own, lowest-in, not_full, not_full-one, AreUsed-grant, AreUsed-one, AreUsed-give, sum_by-fill}
+use Rattle.slab_model.proofs.StateLemmas.{is_free-is, page_at-in, has_room-is, has_room-own, not_full, not_full-one, AreUsed-grant, AreUsed-one, AreUsed-give, sum_by-fill}
 
 -- a list changes in one page of the class
 Lists-page : (class page : ℕ) (state : PageState) (pages : List PageState) (old new : List ℕ) → page < length pages → Lists class pages old → IsDistinct new → ((q : ℕ) → q ≢ page → is_member q new ≡ is_member q old) → is_member page new ≡ has_room class state → Lists class (set pages page state) new

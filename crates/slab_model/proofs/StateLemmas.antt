@@ -1,5 +1,5 @@
 -- What the tests of a page say, and what sums over the pages are once some of them change.
-use Rattle.std.proofs.Common.{ℕ, ◌≡◌, ◌≢◌, ◌⊎◌, ◌+◌, ◌-◌, ◌<◌, ◌≤◌, zero, suc, Bool, true, false, not, ◌&&◌, ◌||◌, List, [], ◌∷◌, length, set, get_or, sym, ap, subst, ◌∙◌, refl, arith, inl, inr, eqb, get_or-set_other}
+use Rattle.std.proofs.Common.{ℕ, ◌≡◌, ◌≢◌, ◌+◌, ◌<◌, ◌≤◌, zero, suc, true, false, not, ◌&&◌, List, [], ◌∷◌, length, set, ap, ◌∙◌, refl, arith, inl, inr, eqb, get_or-set_other}
 use Rattle.std.proofs.lemmas.List.{length-set, get_or_past}
 use Rattle.std.proofs.lemmas.List.Sums.{sum_by-set}
 use Rattle.std.proofs.lemmas.Bool.{cases_Bool, cases_eq, cases_lt, eqb-true, eqb-false}
@@ -8,11 +8,10 @@ use Rattle.std.specs.Prelude.{sum_by}
 use Rattle.slab_model.specs.declared.page.PageState.{PageState}
 use Rattle.slab_model.specs.declared.page.PageState.TheVariants.{Free, First, Later, Class}
 use Rattle.slab_model.specs.Geometry.{first_index, usable_blocks, blocks_in_page}
-use Rattle.slab_model.specs.Numbers.{is_member, IsDistinct, without}
-use Rattle.slab_model.specs.Slab.{page_at, fill_pages, use_pages, is_free, is_full, lowest_unused, first_unused, used_in, has_room, usable_in_class, used_in_class, AreUsed, HasUsedRuns}
+use Rattle.slab_model.specs.Numbers.{is_member, without}
+use Rattle.slab_model.specs.Slab.{page_at, fill_pages, is_free, is_full, lowest_unused, used_in, has_room, AreUsed}
 use Rattle.slab_model.proofs.ClassLemmas.{cuts}
-use Rattle.slab_model.proofs.NumberLemmas.{first_unused-low, first_unused-high, first_unused-unused, first_unused-below, is_member-without, IsDistinct-without, length-without, length-in_range}
-use Rattle.slab_model.proofs.PageLemmas.{NotInRun, page_at-fill_in}
+use Rattle.slab_model.proofs.NumberLemmas.{first_unused-low, first_unused-high, first_unused-unused, first_unused-below, is_member-without, IsDistinct-without, length-in_range}
 
 pub is_free-is : (state : PageState) → is_free state ≡ true → state ≡ Free
 is_free-is Free h = refl

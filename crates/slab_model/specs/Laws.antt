@@ -1,6 +1,6 @@
 -- What holds of every sound slab, and of a grant and a return there.
-use Rattle.std.specs.Prelude.{ℕ, ◌≡◌, ◌≢◌, ◌+◌, ◌*◌, ◌%◌, ◌<◌, ◌≤◌, ◌⊎◌, Option, Some, None, is_some, sum_by}
-use Rattle.slab_model.specs.Geometry.{least_zone, greatest_zone, start_of, pages_of, page_offset, class_count, class_of, usable_blocks}
+use Rattle.std.specs.Prelude.{ℕ, ◌≡◌, ◌≢◌, ◌+◌, ◌%◌, ◌<◌, ◌≤◌, ◌⊎◌, Bool, Some, None, is_some, if◌then◌else◌}
+use Rattle.slab_model.specs.Geometry.{least_zone, greatest_zone, start_of, pages_of, page_offset, class_of}
 use Rattle.slab_model.specs.Slab.{Slab, opened, grant, give_back, fits, block_bytes, live_bytes, IsLive, IsSound, free_pages, used_pages, stat_of, one_more}
 
 -- ---- the live blocks
@@ -31,6 +31,12 @@ pub record Returns (old new : Slab) (at : ℕ) : Type 0 where
 pub record SameBlocks (old new : Slab) : Type 0 where
   pub blocks : (at : ℕ) → live_bytes new at ≡ live_bytes old at
   pub free : free_pages new ≡ free_pages old
+
+-- a request of the class is counted, and a failure where it was given no block; the other classes count nothing
+pub record CountsRequest (old new : Slab) (class : ℕ) (given : Bool) : Type 0 where
+  pub reqs : (stat_of new class).reqs ≡ one_more (stat_of old class).reqs
+  pub fails : (stat_of new class).fails ≡ (if given then (stat_of old class).fails else one_more (stat_of old class).fails)
+  pub others : (other : ℕ) → other ≢ class → stat_of new other ≡ stat_of old other
 
 -- ---- the laws
 
@@ -73,3 +79,11 @@ RoundTripLaw = (slab : Slab) (size at : ℕ) → IsSound slab → 0 < size → (
 -- a request is given a block exactly where it fits
 abbrev pub FitsLaw : Type 0
 FitsLaw = (slab : Slab) (size : ℕ) → fits slab size ≡ is_some (grant slab size).0
+
+-- each request of a class is counted, and each that was given no block
+abbrev pub RequestsLaw : Type 0
+RequestsLaw = (slab : Slab) (size class : ℕ) → IsSound slab → class_of size ≡ Some class → CountsRequest slab (grant slab size).1 class (is_some (grant slab size).0)
+
+-- a return counts no request
+abbrev pub ReturnCountsLaw : Type 0
+ReturnCountsLaw = (slab : Slab) (at class : ℕ) → ((stat_of (give_back slab at) class).reqs ≡ (stat_of slab class).reqs) × ((stat_of (give_back slab at) class).fails ≡ (stat_of slab class).fails)

@@ -1,5 +1,5 @@
-ghost use Rattle.std.specs.Prelude.{◌≡◌, [], ◌∷◌, IfOk, IsSome, MatchOption};
-ghost use Rattle.slab_model.specs.Numbers.{is_member, without};
+ghost use Rattle.std.specs.Prelude.{◌≡◌, ◌<◌, nat_eq, [], ◌∷◌, length, drop, IfOk, MatchOption};
+ghost use Rattle.slab_model.specs.Numbers.{is_member, without as without_one};
 
 use std::alloc::Global;
 use std::marker::Model;
@@ -17,4 +17,80 @@ impl Model for Numbers {
     ghost Value = { List ℕ };
 
     ghost view = { λ n. n.kept.items };
+}
+
+impl Numbers {
+    /// No number.
+    pub fn empty(alloc: Global) -> Numbers
+        ensures { result ≡ [] }
+    {
+        Numbers {
+            kept: Vec::new(alloc),
+        }
+    }
+
+    /// This number alone.
+    pub fn one(alloc: Global, n: u64) -> Result<Numbers, NoMemory>
+        ensures { IfOk result (λ ns. ns ≡ n ∷ []) }
+    {
+        Ok(Numbers {
+            kept: vec![in alloc; n]?,
+        })
+    }
+
+    /// The first number, if there is one.
+    pub fn first(&self) -> Option<u64>
+        ensures { MatchOption result (self.now ≡ []) (λ n. self.now ≡ n ∷ drop 1 self.now) }
+    {
+        self.kept.first().copied()
+    }
+
+    /// Whether the list has a number at all.
+    pub fn is_empty(&self) -> bool
+        ensures { result ≡ nat_eq (length self.now) 0 }
+    {
+        self.kept.is_empty()
+    }
+
+    /// Whether the number is in the list.
+    #[tactic(auto, using(crate::proofs::NumberLemmas::is_member_any))]
+    pub fn contains(&self, n: u64) -> bool
+        ensures { result ≡ is_member n self.now }
+    {
+        self.kept.contains(&n)
+    }
+
+    /// The list with the number before all others.
+    pub fn with_first(&self, alloc: Global, n: u64) -> Result<Numbers, NoMemory>
+        ensures { IfOk result (λ ns. ns ≡ n ∷ self.now) }
+    {
+        let mut kept = Vec::new(alloc);
+        kept.push(n)?;
+        kept.extend_from_slice(&self.kept)?;
+        Ok(Numbers { kept })
+    }
+
+    /// The list without its first number.
+    pub fn rest(&self, alloc: Global) -> Result<Numbers, NoMemory>
+        requires { 0 < length self.now }
+        ensures { IfOk result (λ ns. ns ≡ drop 1 self.now) }
+    {
+        Ok(Numbers {
+            kept: self.kept[1..].to_vec(alloc)?,
+        })
+    }
+
+    /// The list without this number.
+    pub fn without(&self, alloc: Global, n: u64) -> Result<Numbers, NoMemory>
+        ensures { IfOk result (λ ns. ns ≡ without_one n self.now) }
+    {
+        Ok(Numbers {
+            kept: self
+                .kept
+                .iter()
+                .copied()
+                .filter(|m| n != *m)
+                .collect(alloc)?,
+        })
+    }
 }

@@ -1,0 +1,10 @@
+use Rattle.std.proofs.Common.{◌+◌, ◌-◌, sym, ◌∙◌, arith}
+use Rattle.slab_model.specs.declared.page.PageState.TheVariants.{Later}
+use Rattle.slab_model.proofs.Steps.{fill_step}
+use Rattle.slab_model.proofs.pages.use_pages.Goals as goal
+
+pub loop-page-preserved : goal.loop-page-preserved
+loop-page-preserved c =
+    let page = c.loop-page.page in
+    let end = c.args.first + c.args.count in
+    sym (fill_step Later page (end - page) (end - (page + 1)) c.loop-page.pages (omega arith)) ∙ c.loop-page.invariant

@@ -1,0 +1,21 @@
+use Rattle.slab_model.proofs.Laws.{grant-sound, give_back-sound, fits-grant}
+use Rattle.slab_model.proofs.BlockLaws.{opened-law, grant-grants, grant-none, give_back-returns, blocks-law}
+use Rattle.slab_model.proofs.CountLaws.{pages-law, round_trip-law}
+use Rattle.slab_model.proofs.RequestLaws.{requests-law, return_counts-law}
+use Rattle.slab_model.proofs.theorems.laws.Goals as goal
+
+pub returns : goal.returns
+returns c = record {
+  opened = opened-law;
+  grant_sound = grant-sound;
+  return_sound = give_back-sound;
+  grants = grant-grants;
+  no_grant = grant-none;
+  returns = give_back-returns;
+  blocks = blocks-law;
+  pages = pages-law;
+  round_trip = round_trip-law;
+  fits = fits-grant;
+  requests = requests-law;
+  return_counts = return_counts-law;
+}

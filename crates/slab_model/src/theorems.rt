@@ -1,0 +1,27 @@
+ghost use Rattle.slab_model.specs.Laws.{OpenedLaw, GrantSoundLaw, ReturnSoundLaw, GrantLaw, NoGrantLaw, ReturnLaw, BlocksLaw, PagesLaw, RoundTripLaw, FitsLaw, RequestsLaw, ReturnCountsLaw};
+ghost use Rattle.slab_model.specs.Rows.{ZonesRow, NodesRow, SmallRow, LargeRow, RunsRow};
+
+/// What holds of every slab, as theorems over the definitions. Nothing runs.
+pub fn laws()
+    ensures opened { OpenedLaw }
+    ensures grant_sound { GrantSoundLaw }
+    ensures return_sound { ReturnSoundLaw }
+    ensures grants { GrantLaw }
+    ensures no_grant { NoGrantLaw }
+    ensures returns { ReturnLaw }
+    ensures blocks { BlocksLaw }
+    ensures pages { PagesLaw }
+    ensures round_trip { RoundTripLaw }
+    ensures fits { FitsLaw }
+    ensures requests { RequestsLaw }
+    ensures return_counts { ReturnCountsLaw }
+{}
+
+/// Worked rows, which the definitions compute. Nothing runs.
+pub fn worked_rows()
+    ensures zones { ZonesRow }
+    ensures nodes { NodesRow }
+    ensures small { SmallRow }
+    ensures large { LargeRow }
+    ensures runs { RunsRow }
+{}
