@@ -1,6 +1,8 @@
 //! Runs of free pages in the words of a zone, after `ngx_slab.c`.
 #![tactic(auto)]
 
+mod descriptors;
 pub mod geometry;
+mod runs;
 
 pub use geometry::{Geometry, TooSmall};
