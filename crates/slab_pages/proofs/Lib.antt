@@ -8,3 +8,4 @@ pub mod JoinLemmas
 pub mod EdgeLemmas
 pub mod GiveLemmas
 pub mod WalkLemmas
+pub mod PagesLemmas

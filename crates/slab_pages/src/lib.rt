@@ -3,6 +3,8 @@
 
 mod descriptors;
 pub mod geometry;
+pub mod pages;
 mod runs;
 
 pub use geometry::{Geometry, TooSmall};
+pub use pages::{Page, Pages};
