@@ -69,20 +69,21 @@ follow count old mid next new run (y ∷ ys) some apart sound h begins one two =
     let far = λ (page : ℕ) (c : is_covered page (y ∷ ys) ≡ true). covers-apart run (y ∷ ys) page apart c in
     let not_o = λ (page : ℕ) (c : is_covered page (y ∷ ys) ≡ true). descriptor-other page run.first (beyond_first run page some (far page c)) in
     let same = λ (page : ℕ) (c : is_covered page (y ∷ ys) ≡ true) (ne : page ≢ y.first). SameWords-then old next new (descriptor page)
-        (SameWords-then old mid next (descriptor page) (begun_other old mid run page begins (far page c)) (links_other mid next o n page po pn (not_o page c) (λ e. ne (descriptor-injective page y.first (e ∙ h.0))) one))
-        (links_other next new free_head o page head po (descriptor-head page) (not_o page c) two) in
+    (SameWords-then old mid next (descriptor page) (begun_other old mid run page begins (far page c)) (links_other mid next o n page po pn (not_o page c) (λ e. ne (descriptor-injective page y.first (e ∙ h.0))) one))
+    (links_other next new free_head o page head po (descriptor-head page) (not_o page c) two) in
     let c0 = covered-first y ys y.first (omega arith) (omega (arith, sound.0)) in
     let y0 : IsPlace (descriptor y.first) = inr (y.first, refl) in
     let begin0 = begun_other old mid run y.first begins (far y.first c0) in
     let back : prev_at next (descriptor y.first) ≡ o = subst (λ (x : ℕ). prev_at next x ≡ o) h.0 (one.prev (λ e. descriptor-head y.first (sym h.0 ∙ e))) in
-    let after = Links-next next new free_head o (descriptor y.first) head po y0 (descriptor-head y.first) two ∙ Links-next mid next o n (descriptor y.first) po pn y0 (not_o y.first c0) one ∙ begin0.next in
-    (Links-next next new free_head o o head po po (descriptor-head run.first) two ∙ one.next ∙ h.0,
-     Links-slab next new free_head o (descriptor y.first) head po y0 two ∙ Links-slab mid next o n (descriptor y.first) po pn y0 one ∙ begin0.slab ∙ h.1,
-     Links-prev next new free_head o (descriptor y.first) head po y0 (not_o y.first c0) two ∙ back,
-     HasTail-kept old new y (λ page low high. same page (covered-first y ys page (omega (arith, low)) high) (omega (arith, low))) h.3,
-     LaysFrom-kept count old new (descriptor y.first) ys sound.3 after (λ page c. same page (covered-rest y ys page c) (beyond_first y page sound.0 (covers-apart y ys page sound.2 c))) h.4) where
-  beyond_first : (run : Run) (page : ℕ) → 0 < run.pages → (page < run.first) ⊎ (run.first + run.pages ≤ page) → page ≢ run.first
-  beyond_first run page some far e = elim far [ inl l ↦ omega (arith, l, e) | inr g ↦ omega (arith, g, e, some) ]
+    let after = Links-next next new free_head o (descriptor y.first) head po y0 (descriptor-head y.first) two ∙ Links-next mid next o n (descriptor y.first) po pn y0 (not_o y.first c0) one ∙ begin0.next in (
+      Links-next next new free_head o o head po po (descriptor-head run.first) two ∙ one.next ∙ h.0,
+      Links-slab next new free_head o (descriptor y.first) head po y0 two ∙ Links-slab mid next o n (descriptor y.first) po pn y0 one ∙ begin0.slab ∙ h.1,
+      Links-prev next new free_head o (descriptor y.first) head po y0 (not_o y.first c0) two ∙ back,
+      HasTail-kept old new y (λ page low high. same page (covered-first y ys page (omega (arith, low)) high) (omega (arith, low))) h.3,
+      LaysFrom-kept count old new (descriptor y.first) ys sound.3 after (λ page c. same page (covered-rest y ys page c) (beyond_first y page sound.0 (covers-apart y ys page sound.2 c))) h.4,
+    ) where
+      beyond_first : (run : Run) (page : ℕ) → 0 < run.pages → (page < run.first) ⊎ (run.first + run.pages ≤ page) → page ≢ run.first
+      beyond_first run page some far e = elim far [ inl l ↦ omega (arith, l, e) | inr g ↦ omega (arith, g, e, some) ]
 
 pub added : (count : ℕ) (runs : List Run) (run : Run) (old mid next new : List ℕ) → LaysList count old runs → IsCleared count old runs run → BeginsRun old mid run → Links mid next (descriptor run.first) (next_at old free_head) → Links next new free_head (descriptor run.first) → Relists count (run ∷ runs) (run ∷ runs) old new
 added count runs run old mid next new h clear begins one two =
@@ -99,8 +100,8 @@ added count runs run old mid next new h clear begins one two =
       prevs = λ page low high. (clear.cleared page (omega (arith, low)) (omega (arith, high))).prev_is;
     } in
     let own = λ (page : ℕ) (low : run.first < page) (high : page < run.first + run.pages). SameWords-then mid next new (descriptor page)
-        (links_other mid next o n page po pn (descriptor-other page run.first (omega (arith, low))) (not_node runs run page n clear.apart (omega (arith, low)) high node) one)
-        (links_other next new free_head o page head po (descriptor-head page) (descriptor-other page run.first (omega (arith, low))) two) in
+    (links_other mid next o n page po pn (descriptor-other page run.first (omega (arith, low))) (not_node runs run page n clear.apart (omega (arith, low)) high node) one)
+    (links_other next new free_head o page head po (descriptor-head page) (descriptor-other page run.first (omega (arith, low))) two) in
     let here : IsNode o (run ∷ runs) = inr (run.first, refl, covered-first run runs run.first (omega arith) (omega (arith, clear.some))) in
     let there : IsNode n (run ∷ runs) = elim node [ inl e ↦ inl e | inr m ↦ inr (m.0, m.1, covered-rest run runs m.0 m.2) ] in
     record {
@@ -121,8 +122,8 @@ added count runs run old mid next new h clear begins one two =
       kept = kept_then (run ∷ runs) old next new (kept_then (run ∷ runs) old mid next (begun_kept old mid run (run ∷ runs) (λ page low high. covered-first run runs page low high) begins) (links_kept mid next o n (run ∷ runs) here there one)) (links_kept next new free_head o (run ∷ runs) (inl refl) here two);
       free = links_free next new free_head o head po two ∙ links_free mid next o n po pn one ∙ begins.others pfree (inl (omega arith));
     } where
-  not_node : (runs : List Run) (run : Run) (page n : ℕ) → IsApart run runs → run.first ≤ page → page < run.first + run.pages → IsNode n runs → descriptor page ≢ n
-  not_node runs run page n apart low high node e = elim node [
-    | inl at ↦ descriptor-head page (e ∙ at)
-    | inr m ↦ let same = descriptor-injective page m.0 (e ∙ m.1) in elim (covers-apart run runs m.0 apart m.2) [ inl l ↦ omega (arith, l, same, low) | inr g ↦ omega (arith, g, same, high) ]
-  ]
+      not_node : (runs : List Run) (run : Run) (page n : ℕ) → IsApart run runs → run.first ≤ page → page < run.first + run.pages → IsNode n runs → descriptor page ≢ n
+      not_node runs run page n apart low high node e = elim node [
+        | inl at ↦ descriptor-head page (e ∙ at)
+        | inr m ↦ let same = descriptor-injective page m.0 (e ∙ m.1) in elim (covers-apart run runs m.0 apart m.2) [ inl l ↦ omega (arith, l, same, low) | inr g ↦ omega (arith, g, same, high) ]
+      ]

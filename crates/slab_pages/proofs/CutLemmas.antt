@@ -78,22 +78,22 @@ taken_front count n first runs old mid next new h some found less begins one two
       prevs = λ page low high. (tail.between page (omega (arith, low)) (omega (arith, high, less))).prev_is;
     } in
     let own = λ (page : ℕ) (low : first + n < page) (high : page < first + n + (pages - n)). SameWords-then mid next new (descriptor page)
-        (links_other mid next o b page po pb (descriptor-other page (first + n) (omega (arith, low))) (after_beyond count old runs first page h listed (omega (arith, low)) (omega (arith, high, less))) one)
-        (links_other next new a o page pa po (before_beyond count old runs first page h listed (omega (arith, low)) (omega (arith, high, less))) (descriptor-other page (first + n) (omega (arith, low))) two) in
+    (links_other mid next o b page po pb (descriptor-other page (first + n) (omega (arith, low))) (after_beyond count old runs first page h listed (omega (arith, low)) (omega (arith, high, less))) one)
+    (links_other next new a o page pa po (before_beyond count old runs first page h listed (omega (arith, low)) (omega (arith, high, less))) (descriptor-other page (first + n) (omega (arith, low))) two) in
     let slab : slab_at new o ≡ pages - n = Links-slab next new a o o pa po po two ∙ Links-slab mid next o b o po pb po one ∙ begins.slab in
     let to_next : next_at new o ≡ b = Links-next next new a o o pa po po not_a two ∙ one.next in
     let from_next : b ≢ free_head → prev_at new b ≡ o = λ ne. Links-prev next new a o b pa po pb (λ e. not_b (sym e)) two ∙ one.prev ne in
     let local : (q : ℕ) (x : Run) (xs : List Run) → x.first ≡ first → prev_at old (descriptor first) ≡ q → Outside q (x ∷ xs) → AreSound count (x ∷ xs) → pages_from first (x ∷ xs) ≡ pages_from first runs → LaysFrom old q (x ∷ xs) → LaysFrom new q (cut_run n x xs) = λ q x xs e pq out sound same hx.
-        subst (λ (rs : List Run). LaysFrom new q rs) (sym (cut-run-is n x xs first pages e (sym (pages_from-here x xs first e) ∙ same) less)) (
-          subst (λ (p : ℕ). next_at new p ≡ o) pq two.next,
-          slab,
-          two.prev (descriptor-head (first + n)) ∙ pq,
-          HasTail-kept mid new rest own (begins.tail blank),
-          relink count old new o a x xs sound.2 sound.3 (λ page c eq. out page (covered-rest x xs page c) (eq ∙ pq)) (near_here old new first pages x xs e same near)
-            (to_next ∙ ap (λ k. next_at old (descriptor k)) (sym e))
-            (subst (λ (k : ℕ). next_at old (descriptor k) ≢ free_head → prev_at new (next_at old (descriptor k)) ≡ o) (sym e) from_next)
-            hx.4,
-        ) in
+    subst (λ (rs : List Run). LaysFrom new q rs) (sym (cut-run-is n x xs first pages e (sym (pages_from-here x xs first e) ∙ same) less)) (
+      subst (λ (p : ℕ). next_at new p ≡ o) pq two.next,
+      slab,
+      two.prev (descriptor-head (first + n)) ∙ pq,
+      HasTail-kept mid new rest own (begins.tail blank),
+      relink count old new o a x xs sound.2 sound.3 (λ page c eq. out page (covered-rest x xs page c) (eq ∙ pq)) (near_here old new first pages x xs e same near)
+          (to_next ∙ ap (λ k. next_at old (descriptor k)) (sym e))
+          (subst (λ (k : ℕ). next_at old (descriptor k) ≢ free_head → prev_at new (next_at old (descriptor k)) ≡ o) (sym e) from_next)
+          hx.4,
+    ) in
     let covered = λ (page : ℕ) (low : first + n ≤ page) (high : page < first + n + (pages - n)). pages_from-covers first page runs (omega (arith, low)) (omega (arith, high, less)) in
     let no : IsNode o runs = inr (first + n, refl, covered (first + n) (omega arith) (omega (arith, less))) in
     record {
@@ -108,8 +108,8 @@ taken_front count n first runs old mid next new h some found less begins one two
       kept = kept_then runs old next new (kept_then runs old mid next (begun_kept old mid rest runs covered begins) (links_kept mid next o b runs no nb one)) (links_kept next new a o runs na no two);
       free = links_free next new a o pa po two ∙ links_free mid next o b po pb one ∙ begins.others pfree (inl (omega arith));
     } where
-  apart_rest : (first n pages page : ℕ) → n < pages → (page < first) ⊎ (first + pages ≤ page) → (page < first + n) ⊎ (first + n + (pages - n) ≤ page)
-  apart_rest first n pages page less beyond = elim beyond [ inl l ↦ inl (omega (arith, l)) | inr g ↦ inr (omega (arith, g, less)) ]
+      apart_rest : (first n pages page : ℕ) → n < pages → (page < first) ⊎ (first + pages ≤ page) → (page < first + n) ⊎ (first + n + (pages - n) ≤ page)
+      apart_rest first n pages page less beyond = elim beyond [ inl l ↦ inl (omega (arith, l)) | inr g ↦ inr (omega (arith, g, less)) ]
 
-  beyond_rest : (first n pages page : ℕ) → n < pages → (page < first) ⊎ (first + pages ≤ page) → page ≢ first + n
-  beyond_rest first n pages page less beyond e = elim beyond [ inl l ↦ omega (arith, l, e) | inr g ↦ omega (arith, g, e, less) ]
+      beyond_rest : (first n pages page : ℕ) → n < pages → (page < first) ⊎ (first + pages ≤ page) → page ≢ first + n
+      beyond_rest first n pages page less beyond e = elim beyond [ inl l ↦ omega (arith, l, e) | inr g ↦ omega (arith, g, e, less) ]

@@ -66,9 +66,10 @@ marked old mid new first n some one rest = record {
 
 -- the first descriptor of a listed run has the type of whole pages, and is linked
 pub listed_first : (count : ℕ) (words : List ℕ) (runs : List Run) (first : ℕ) → LaysList count words runs → 0 < pages_from first runs → (prev_at words (descriptor first) % 4 ≡ 0) × (next_at words (descriptor first) ≢ 0)
-listed_first count words runs first h some =
-    (elim (node_before count words runs first h some) [ inl e ↦ ap (λ x. x % 4) e | inr m ↦ ap (λ x. x % 4) m.1 ∙ descriptor-type m.0 ],
-     λ zero. elim (node_after count words runs first h some) [ inl e ↦ omega (arith, e, zero) | inr m ↦ descriptor-zero m.0 (sym m.1 ∙ zero) ])
+listed_first count words runs first h some = (
+  elim (node_before count words runs first h some) [ inl e ↦ ap (λ x. x % 4) e | inr m ↦ ap (λ x. x % 4) m.1 ∙ descriptor-type m.0 ],
+  λ zero. elim (node_after count words runs first h some) [ inl e ↦ omega (arith, e, zero) | inr m ↦ descriptor-zero m.0 (sym m.1 ∙ zero) ],
+)
 
 -- a page that isn't free is no first page of a listed run
 pub busy_from : (count : ℕ) (words : List ℕ) (runs : List Run) (page : ℕ) → LaysList count words runs → IsBusy words page → pages_from page runs ≡ 0

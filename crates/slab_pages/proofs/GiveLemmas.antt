@@ -149,16 +149,16 @@ taken count first n runs old mid next new v some h found re marks is counts =
       };
       kept = kept_then runs old next new (kept_then runs old mid next re.kept (range_kept runs mid next first n covered marks.same_length marks.others)) (counted_kept next new runs v is);
     } where
-  outside : (page : ℕ) → is_covered page (take_run n runs) ≡ true → (page < first) ⊎ (first + n ≤ page)
-  outside page c = elim (cases_lt page first) [
-    | inl l ↦ inl l
-    | inr g ↦ elim (cases_lt page (first + n)) [
-      | inl inside ↦ absurd (no_page _ _ (sym (is_covered-take count n runs first page h.sound found) ∙ c) (is_within-in page first n g inside))
-      | inr after ↦ inr after
-    ]
-  ] where
-    no_page : (a b : Bool) → (a && not b) ≡ true → b ≡ true → ⊥
-    no_page a b e f = grind (arith, common_steps)
+      outside : (page : ℕ) → is_covered page (take_run n runs) ≡ true → (page < first) ⊎ (first + n ≤ page)
+      outside page c = elim (cases_lt page first) [
+        | inl l ↦ inl l
+        | inr g ↦ elim (cases_lt page (first + n)) [
+          | inl inside ↦ absurd (no_page _ _ (sym (is_covered-take count n runs first page h.sound found) ∙ c) (is_within-in page first n g inside))
+          | inr after ↦ inr after
+        ]
+      ] where
+        no_page : (a b : Bool) → (a && not b) ≡ true → b ≡ true → ⊥
+        no_page a b e f = grind (arith, common_steps)
 
 -- the list keeps its count
 pub taken_total : (n first : ℕ) (runs : List Run) → first_fit n runs ≡ Some first → page_total (take_run n runs) + n ≡ page_total runs
@@ -202,9 +202,13 @@ given_before count first n runs old mid new after h used fills detach = elim (ca
   by_cover true c ne =
       let some : 0 < pages_before first runs = subst (λ (k : ℕ). 0 < pages_before k runs) (omega (arith, ne)) (covered-before count runs (first - 1) h.sound c (subst (λ (k : ℕ). is_covered k runs ≡ false) (omega (arith, ne)) (used.used first (omega arith) (omega (arith, used.some))))) in
       inl (omega (arith, some, before-without runs (first + n) first (omega (arith, used.some))))
-  by_cover false c ne = inr (omega (arith, ne), omega (arith, used.within), busy_kept old new (first - 1)
-      (SameWords-then old mid new (descriptor (first - 1)) (range_other old mid first n (first - 1) fills.others (inl (omega (arith, ne)))) (kept_words runs mid new (first - 1) detach.kept c))
-      (used.before (first - 1) (omega (arith, ne)) c))
+  by_cover false c ne = inr (
+    omega (arith, ne),
+    omega (arith, used.within),
+    busy_kept old new (first - 1)
+        (SameWords-then old mid new (descriptor (first - 1)) (range_other old mid first n (first - 1) fills.others (inl (omega (arith, ne)))) (kept_words runs mid new (first - 1) detach.kept c))
+        (used.before (first - 1) (omega (arith, ne)) c),
+  )
 
 -- a page that isn't free isn't in what is left of the list
 pub uncovered_without : (runs : List Run) (first page : ℕ) → is_covered page runs ≡ false → is_covered page (without_run first runs) ≡ false
@@ -256,20 +260,20 @@ merges count first n runs old one two three after before h used fills d1 is d2 =
       };
       list = list;
     } where
-  make : (first n b c a d : ℕ) → b ≡ c → a ≡ d → joined_run first n b a ≡ joined_run first n c d
-  make first n b c a d eb ea = ap (λ k. joined_run first n k a) eb ∙ ap (λ k. joined_run first n c k) ea
+      make : (first n b c a d : ℕ) → b ≡ c → a ≡ d → joined_run first n b a ≡ joined_run first n c d
+      make first n b c a d eb ea = ap (λ k. joined_run first n k a) eb ∙ ap (λ k. joined_run first n c k) ea
 
-  two_equal : (x y : Run) (xs ys : List Run) → x ≡ y → xs ≡ ys → x ∷ xs ≡ y ∷ ys
-  two_equal x y xs ys e f = ap (λ (z : Run). z ∷ xs) e ∙ ap (λ (zs : List Run). y ∷ zs) f
+      two_equal : (x y : Run) (xs ys : List Run) → x ≡ y → xs ≡ ys → x ∷ xs ≡ y ∷ ys
+      two_equal x y xs ys e f = ap (λ (z : Run). z ∷ xs) e ∙ ap (λ (zs : List Run). y ∷ zs) f
 
-  lower : before ≡ pages_before first runs → before ≤ first
-  lower e = elim (cases_lt 0 (pages_before first runs)) [ inl some ↦ omega (arith, e, (before-from count runs first h.sound some).0) | inr none ↦ omega (arith, e, none) ]
+      lower : before ≡ pages_before first runs → before ≤ first
+      lower e = elim (cases_lt 0 (pages_before first runs)) [ inl some ↦ omega (arith, e, (before-from count runs first h.sound some).0) | inr none ↦ omega (arith, e, none) ]
 
-  gone : (page : ℕ) → first + n ≤ page → page < first + n + pages_from (first + n) runs → is_covered page (without_run (first + n) runs) ≡ false
-  gone page low high = by_cover (is_covered page (without_run (first + n) runs)) refl where
-    by_cover : (b : Bool) → is_covered page (without_run (first + n) runs) ≡ b → is_covered page (without_run (first + n) runs) ≡ false
-    by_cover true c = absurd (elim (covered-without count runs (first + n) page h.sound c) [ inl l ↦ omega (arith, l, low) | inr g ↦ omega (arith, g, high) ])
-    by_cover false c = c
+      gone : (page : ℕ) → first + n ≤ page → page < first + n + pages_from (first + n) runs → is_covered page (without_run (first + n) runs) ≡ false
+      gone page low high = by_cover (is_covered page (without_run (first + n) runs)) refl where
+        by_cover : (b : Bool) → is_covered page (without_run (first + n) runs) ≡ b → is_covered page (without_run (first + n) runs) ≡ false
+        by_cover true c = absurd (elim (covered-without count runs (first + n) page h.sound c) [ inl l ↦ omega (arith, l, low) | inr g ↦ omega (arith, g, high) ])
+        by_cover false c = c
 
 pub given : (count first n : ℕ) (runs : List Run) (old one two three four new : List ℕ) (after before v : ℕ) → LaysList count old runs → IsUsed count old runs (record { first = first; pages = n }) → FillsRun old one first n 0 → Detaches count runs one two (first + n) after → Detaches count (without_run (first + n) runs) two three (first - before) before → Merges count first n runs three before after → Relists count (record { first = first - before; pages = before + n + after } ∷ without_run (first - before) (without_run (first + n) runs)) (record { first = first - before; pages = before + n + after } ∷ without_run (first - before) (without_run (first + n) runs)) three four → new ≡ set four pfree v → v ≡ get_or old pfree 0 + n → GivesRun count runs old new (record { first = first; pages = n })
 given count first n runs old one two three four new after before v h used fills d1 d2 m adds is counts =
@@ -289,8 +293,8 @@ given count first n runs old one two three four new after before v h used fills 
           re.kept)
           (counted_kept four new after_list v is);
     } where
-  either_left : (a b : Bool) → a ≡ true → (a || b) ≡ true
-  either_left a b e = grind (arith, common_steps)
+      either_left : (a b : Bool) → a ≡ true → (a || b) ≡ true
+      either_left a b e = grind (arith, common_steps)
 
-  either_right : (a b : Bool) → b ≡ true → (a || b) ≡ true
-  either_right a b e = grind (arith, common_steps)
+      either_right : (a b : Bool) → b ≡ true → (a || b) ≡ true
+      either_right a b e = grind (arith, common_steps)

@@ -73,52 +73,52 @@ filter-without count run (x ∷ xs) sound some free =
         | inr na ↦ beside_none count run x xs sound some free nb na ih
       ]
     ] where
-  uncovered-rest : (x : Run) (xs : List Run) (page : ℕ) → is_covered page (x ∷ xs) ≡ false → is_covered page xs ≡ false
-  uncovered-rest x xs page h = grind (arith, common_steps)
+      uncovered-rest : (x : Run) (xs : List Run) (page : ℕ) → is_covered page (x ∷ xs) ≡ false → is_covered page xs ≡ false
+      uncovered-rest x xs page h = grind (arith, common_steps)
 
-  before-apart : (x : Run) (xs : List Run) → IsApart x xs → pages_before (x.first + x.pages) xs ≡ 0
-  before-apart x [] apart = refl
-  before-apart x (y ∷ ys) apart = let ih = before-apart x ys apart.1 in grind (arith, common_steps, ih)
+      before-apart : (x : Run) (xs : List Run) → IsApart x xs → pages_before (x.first + x.pages) xs ≡ 0
+      before-apart x [] apart = refl
+      before-apart x (y ∷ ys) apart = let ih = before-apart x ys apart.1 in grind (arith, common_steps, ih)
 
-  from-apart : (x : Run) (xs : List Run) → IsApart x xs → 0 < x.pages → pages_from x.first xs ≡ 0
-  from-apart x xs apart some = pages_from-apart x xs x.first apart (omega arith) (omega (arith, some))
+      from-apart : (x : Run) (xs : List Run) → IsApart x xs → 0 < x.pages → pages_from x.first xs ≡ 0
+      from-apart x xs apart some = pages_from-apart x xs x.first apart (omega arith) (omega (arith, some))
 
-  pages_from-without : (count : ℕ) (xs : List Run) (first other : ℕ) → AreSound count xs → pages_from first xs ≡ 0 → pages_from first (without_run other xs) ≡ 0
-  pages_from-without count [] first other sound none = refl
-  pages_from-without count (y ∷ ys) first other sound none = let ih = pages_from-without count ys first other sound.3 in let some = sound.0 in grind (arith, common_steps, ih)
+      pages_from-without : (count : ℕ) (xs : List Run) (first other : ℕ) → AreSound count xs → pages_from first xs ≡ 0 → pages_from first (without_run other xs) ≡ 0
+      pages_from-without count [] first other sound none = refl
+      pages_from-without count (y ∷ ys) first other sound none = let ih = pages_from-without count ys first other sound.3 in let some = sound.0 in grind (arith, common_steps, ih)
 
-  before_it : (count : ℕ) (run x : Run) (xs : List Run) → AreSound count (x ∷ xs) → 0 < run.pages → x.first + x.pages ≡ run.first → pages_from run.first xs ≡ 0 → filter (λ other. not (is_beside run other)) xs ≡ without_run (run.first - pages_before run.first xs) (without_run (run.first + run.pages) xs) → filter (λ other. not (is_beside run other)) (x ∷ xs) ≡ without_run (run.first - pages_before run.first (x ∷ xs)) (without_run (run.first + run.pages) (x ∷ xs))
-  before_it count run x xs sound some e none ih =
-      let zero_before : pages_before run.first xs ≡ 0 = subst (λ (k : ℕ). pages_before k xs ≡ 0) e (before-apart x xs sound.2) in
-      let is : pages_before run.first (x ∷ xs) ≡ x.pages = grind (arith, common_steps) in
-      let drops : filter (λ other. not (is_beside run other)) (x ∷ xs) ≡ filter (λ other. not (is_beside run other)) xs = grind (arith, common_steps) in
-      let rest : without_run (run.first - pages_before run.first xs) (without_run (run.first + run.pages) xs) ≡ without_run (run.first + run.pages) xs =
+      before_it : (count : ℕ) (run x : Run) (xs : List Run) → AreSound count (x ∷ xs) → 0 < run.pages → x.first + x.pages ≡ run.first → pages_from run.first xs ≡ 0 → filter (λ other. not (is_beside run other)) xs ≡ without_run (run.first - pages_before run.first xs) (without_run (run.first + run.pages) xs) → filter (λ other. not (is_beside run other)) (x ∷ xs) ≡ without_run (run.first - pages_before run.first (x ∷ xs)) (without_run (run.first + run.pages) (x ∷ xs))
+      before_it count run x xs sound some e none ih =
+          let zero_before : pages_before run.first xs ≡ 0 = subst (λ (k : ℕ). pages_before k xs ≡ 0) e (before-apart x xs sound.2) in
+          let is : pages_before run.first (x ∷ xs) ≡ x.pages = grind (arith, common_steps) in
+          let drops : filter (λ other. not (is_beside run other)) (x ∷ xs) ≡ filter (λ other. not (is_beside run other)) xs = grind (arith, common_steps) in
+          let rest : without_run (run.first - pages_before run.first xs) (without_run (run.first + run.pages) xs) ≡ without_run (run.first + run.pages) xs =
           without-none count (without_run (run.first + run.pages) xs) (run.first - pages_before run.first xs) (AreSound-without count xs (run.first + run.pages) sound.3)
-            (pages_from-without count xs (run.first - pages_before run.first xs) (run.first + run.pages) sound.3 (subst (λ (k : ℕ). pages_from k xs ≡ 0) (omega (arith, zero_before)) none)) in
-      let goal : without_run (run.first - pages_before run.first (x ∷ xs)) (without_run (run.first + run.pages) (x ∷ xs)) ≡ without_run (run.first + run.pages) xs = grind (arith, common_steps, is) in
-      drops ∙ ih ∙ rest ∙ sym goal
+          (pages_from-without count xs (run.first - pages_before run.first xs) (run.first + run.pages) sound.3 (subst (λ (k : ℕ). pages_from k xs ≡ 0) (omega (arith, zero_before)) none)) in
+          let goal : without_run (run.first - pages_before run.first (x ∷ xs)) (without_run (run.first + run.pages) (x ∷ xs)) ≡ without_run (run.first + run.pages) xs = grind (arith, common_steps, is) in
+          drops ∙ ih ∙ rest ∙ sym goal
 
-  after_it : (count : ℕ) (run x : Run) (xs : List Run) → AreSound count (x ∷ xs) → 0 < run.pages → x.first + x.pages ≢ run.first → x.first ≡ run.first + run.pages → filter (λ other. not (is_beside run other)) xs ≡ without_run (run.first - pages_before run.first xs) (without_run (run.first + run.pages) xs) → filter (λ other. not (is_beside run other)) (x ∷ xs) ≡ without_run (run.first - pages_before run.first (x ∷ xs)) (without_run (run.first + run.pages) (x ∷ xs))
-  after_it count run x xs sound some nb e ih =
-      let is : pages_before run.first (x ∷ xs) ≡ pages_before run.first xs = grind (arith, common_steps) in
-      let drops : filter (λ other. not (is_beside run other)) (x ∷ xs) ≡ filter (λ other. not (is_beside run other)) xs = grind (arith, common_steps) in
-      let same : without_run (run.first + run.pages) xs ≡ xs = without-none count xs (run.first + run.pages) sound.3 (subst (λ (k : ℕ). pages_from k xs ≡ 0) e (from-apart x xs sound.2 sound.0)) in
-      let goal : without_run (run.first + run.pages) (x ∷ xs) ≡ xs = grind (arith, common_steps) in
-      drops ∙ ih ∙ ap (λ (ys : List Run). without_run (run.first - pages_before run.first xs) ys) same ∙ ap (λ (k : ℕ). without_run (run.first - k) xs) (sym is) ∙ ap (λ (ys : List Run). without_run (run.first - pages_before run.first (x ∷ xs)) ys) (sym goal)
+      after_it : (count : ℕ) (run x : Run) (xs : List Run) → AreSound count (x ∷ xs) → 0 < run.pages → x.first + x.pages ≢ run.first → x.first ≡ run.first + run.pages → filter (λ other. not (is_beside run other)) xs ≡ without_run (run.first - pages_before run.first xs) (without_run (run.first + run.pages) xs) → filter (λ other. not (is_beside run other)) (x ∷ xs) ≡ without_run (run.first - pages_before run.first (x ∷ xs)) (without_run (run.first + run.pages) (x ∷ xs))
+      after_it count run x xs sound some nb e ih =
+          let is : pages_before run.first (x ∷ xs) ≡ pages_before run.first xs = grind (arith, common_steps) in
+          let drops : filter (λ other. not (is_beside run other)) (x ∷ xs) ≡ filter (λ other. not (is_beside run other)) xs = grind (arith, common_steps) in
+          let same : without_run (run.first + run.pages) xs ≡ xs = without-none count xs (run.first + run.pages) sound.3 (subst (λ (k : ℕ). pages_from k xs ≡ 0) e (from-apart x xs sound.2 sound.0)) in
+          let goal : without_run (run.first + run.pages) (x ∷ xs) ≡ xs = grind (arith, common_steps) in
+          drops ∙ ih ∙ ap (λ (ys : List Run). without_run (run.first - pages_before run.first xs) ys) same ∙ ap (λ (k : ℕ). without_run (run.first - k) xs) (sym is) ∙ ap (λ (ys : List Run). without_run (run.first - pages_before run.first (x ∷ xs)) ys) (sym goal)
 
-  elsewhere : (count : ℕ) (run x : Run) (xs : List Run) → AreSound count (x ∷ xs) → is_covered run.first (x ∷ xs) ≡ false → x.first ≢ run.first - pages_before run.first xs
-  elsewhere count run x xs sound free e = elim (cases_lt 0 (pages_before run.first xs)) [
-    | inl more ↦ let h = before-from count xs run.first sound.3 more in omega (arith, ap (λ k. pages_from k xs) e, h.1, more, from-apart x xs sound.2 sound.0)
-    | inr none ↦ differ (sym (covered-first x xs run.first (omega (arith, e, none)) (omega (arith, e, none, sound.0))) ∙ free)
-  ] where
-    differ : true ≡ false → ⊥
-    differ e = cc
+      elsewhere : (count : ℕ) (run x : Run) (xs : List Run) → AreSound count (x ∷ xs) → is_covered run.first (x ∷ xs) ≡ false → x.first ≢ run.first - pages_before run.first xs
+      elsewhere count run x xs sound free e = elim (cases_lt 0 (pages_before run.first xs)) [
+        | inl more ↦ let h = before-from count xs run.first sound.3 more in omega (arith, ap (λ k. pages_from k xs) e, h.1, more, from-apart x xs sound.2 sound.0)
+        | inr none ↦ differ (sym (covered-first x xs run.first (omega (arith, e, none)) (omega (arith, e, none, sound.0))) ∙ free)
+      ] where
+        differ : true ≡ false → ⊥
+        differ e = cc
 
-  beside_none : (count : ℕ) (run x : Run) (xs : List Run) → AreSound count (x ∷ xs) → 0 < run.pages → is_covered run.first (x ∷ xs) ≡ false → x.first + x.pages ≢ run.first → x.first ≢ run.first + run.pages → filter (λ other. not (is_beside run other)) xs ≡ without_run (run.first - pages_before run.first xs) (without_run (run.first + run.pages) xs) → filter (λ other. not (is_beside run other)) (x ∷ xs) ≡ without_run (run.first - pages_before run.first (x ∷ xs)) (without_run (run.first + run.pages) (x ∷ xs))
-  beside_none count run x xs sound some free nb na ih =
-      let is : pages_before run.first (x ∷ xs) ≡ pages_before run.first xs = grind (arith, common_steps) in
-      let keeps : filter (λ other. not (is_beside run other)) (x ∷ xs) ≡ x ∷ filter (λ other. not (is_beside run other)) xs = grind (arith, common_steps) in
-      let other : x.first ≢ run.first - pages_before run.first xs = elsewhere count run x xs sound free in
-      let one : without_run (run.first + run.pages) (x ∷ xs) ≡ x ∷ without_run (run.first + run.pages) xs = grind (arith, common_steps) in
-      let two : without_run (run.first - pages_before run.first xs) (x ∷ without_run (run.first + run.pages) xs) ≡ x ∷ without_run (run.first - pages_before run.first xs) (without_run (run.first + run.pages) xs) = grind (arith, common_steps) in
-      keeps ∙ ap (λ (ys : List Run). x ∷ ys) ih ∙ sym two ∙ ap (λ (ys : List Run). without_run (run.first - pages_before run.first xs) ys) (sym one) ∙ ap (λ (k : ℕ). without_run (run.first - k) (without_run (run.first + run.pages) (x ∷ xs))) (sym is)
+      beside_none : (count : ℕ) (run x : Run) (xs : List Run) → AreSound count (x ∷ xs) → 0 < run.pages → is_covered run.first (x ∷ xs) ≡ false → x.first + x.pages ≢ run.first → x.first ≢ run.first + run.pages → filter (λ other. not (is_beside run other)) xs ≡ without_run (run.first - pages_before run.first xs) (without_run (run.first + run.pages) xs) → filter (λ other. not (is_beside run other)) (x ∷ xs) ≡ without_run (run.first - pages_before run.first (x ∷ xs)) (without_run (run.first + run.pages) (x ∷ xs))
+      beside_none count run x xs sound some free nb na ih =
+          let is : pages_before run.first (x ∷ xs) ≡ pages_before run.first xs = grind (arith, common_steps) in
+          let keeps : filter (λ other. not (is_beside run other)) (x ∷ xs) ≡ x ∷ filter (λ other. not (is_beside run other)) xs = grind (arith, common_steps) in
+          let other : x.first ≢ run.first - pages_before run.first xs = elsewhere count run x xs sound free in
+          let one : without_run (run.first + run.pages) (x ∷ xs) ≡ x ∷ without_run (run.first + run.pages) xs = grind (arith, common_steps) in
+          let two : without_run (run.first - pages_before run.first xs) (x ∷ without_run (run.first + run.pages) xs) ≡ x ∷ without_run (run.first - pages_before run.first xs) (without_run (run.first + run.pages) xs) = grind (arith, common_steps) in
+          keeps ∙ ap (λ (ys : List Run). x ∷ ys) ih ∙ sym two ∙ ap (λ (ys : List Run). without_run (run.first - pages_before run.first xs) ys) (sym one) ∙ ap (λ (k : ℕ). without_run (run.first - k) (without_run (run.first + run.pages) (x ∷ xs))) (sym is)

@@ -9,3 +9,4 @@ pub mod EdgeLemmas
 pub mod GiveLemmas
 pub mod WalkLemmas
 pub mod PagesLemmas
+pub mod OpeningLemmas

@@ -65,10 +65,13 @@ covered-rest x xs page h = grind (arith, common_steps)
 pub LaysFrom-kept : (count : ℕ) (old new : List ℕ) (p : ℕ) (runs : List Run) → AreSound count runs → next_at new p ≡ next_at old p → ((page : ℕ) → is_covered page runs ≡ true → SameWords old new (descriptor page)) → LaysFrom old p runs → LaysFrom new p runs
 LaysFrom-kept count old new p [] sound next same h = next ∙ h
 LaysFrom-kept count old new p (x ∷ xs) sound next same h =
-    let first = same x.first (covered-first x xs x.first (omega arith) (omega (arith, sound.0))) in
-    (next ∙ h.0, first.slab ∙ h.1, first.prev ∙ h.2,
-     HasTail-kept old new x (λ page low high. same page (covered-first x xs page (omega arith) high)) h.3,
-     LaysFrom-kept count old new (descriptor x.first) xs sound.3 first.next (λ page c. same page (covered-rest x xs page c)) h.4)
+    let first = same x.first (covered-first x xs x.first (omega arith) (omega (arith, sound.0))) in (
+      next ∙ h.0,
+      first.slab ∙ h.1,
+      first.prev ∙ h.2,
+      HasTail-kept old new x (λ page low high. same page (covered-first x xs page (omega arith) high)) h.3,
+      LaysFrom-kept count old new (descriptor x.first) xs sound.3 first.next (λ page c. same page (covered-rest x xs page c)) h.4,
+    )
 
 -- ---- one run of the list changes
 
@@ -134,12 +137,15 @@ relink count old new a before x (y ∷ ys) apart sound out near next prev h =
     let same = λ (page : ℕ) (c : is_covered page (y ∷ ys) ≡ true) (ne : page ≢ y.first). same_near old new x.first x.pages before (next_at old (descriptor x.first)) page near (beyond page c) (out page c) (is_next page ne) in
     let not_head : next_at old (descriptor x.first) ≢ free_head = λ e. descriptor-head y.first (sym h.0 ∙ e) in
     let back : prev_at new (descriptor y.first) ≡ a = subst (λ (o : ℕ). prev_at new o ≡ a) h.0 (prev not_head) in
-    let after : next_at new (descriptor y.first) ≡ next_at old (descriptor y.first) = near.nexts y.first (beyond y.first here) (out y.first here) in
-    (next ∙ h.0, near.slabs y.first (beyond y.first here) ∙ h.1, back,
-     HasTail-kept old new y (λ page low high. same page (covered-first y ys page (omega arith) high) (omega (arith, low))) h.3,
-     LaysFrom-kept count old new (descriptor y.first) ys sound.3 after (λ page c. same page (covered-rest y ys page c) (covers-first y ys page sound.2 sound.0 c)) h.4) where
-  covers-first : (y : Run) (ys : List Run) (page : ℕ) → IsApart y ys → 0 < y.pages → is_covered page ys ≡ true → page ≢ y.first
-  covers-first y ys page apart some c e = elim (covers-apart y ys page apart c) [ inl l ↦ omega (arith, l, e) | inr g ↦ omega (arith, g, e, some) ]
+    let after : next_at new (descriptor y.first) ≡ next_at old (descriptor y.first) = near.nexts y.first (beyond y.first here) (out y.first here) in (
+      next ∙ h.0,
+      near.slabs y.first (beyond y.first here) ∙ h.1,
+      back,
+      HasTail-kept old new y (λ page low high. same page (covered-first y ys page (omega arith) high) (omega (arith, low))) h.3,
+      LaysFrom-kept count old new (descriptor y.first) ys sound.3 after (λ page c. same page (covered-rest y ys page c) (covers-first y ys page sound.2 sound.0 c)) h.4,
+    ) where
+      covers-first : (y : Run) (ys : List Run) (page : ℕ) → IsApart y ys → 0 < y.pages → is_covered page ys ≡ true → page ≢ y.first
+      covers-first y ys page apart some c e = elim (covers-apart y ys page apart c) [ inl l ↦ omega (arith, l, e) | inr g ↦ omega (arith, g, e, some) ]
 
 -- a change at one run leaves the rest of the list
 pub relaid : (count : ℕ) (old new : List ℕ) (first : ℕ) (f : Run → List Run → List Run) (p : ℕ) (runs : List Run) → IsPlace p → Outside p runs → AreSound count runs → LaysFrom old p runs → 0 < pages_from first runs → Near old new first (pages_from first runs) (prev_at old (descriptor first)) (next_at old (descriptor first)) → ((q : ℕ) (x : Run) (xs : List Run) → x.first ≡ first → prev_at old (descriptor first) ≡ q → Outside q (x ∷ xs) → AreSound count (x ∷ xs) → pages_from first (x ∷ xs) ≡ pages_from first runs → LaysFrom old q (x ∷ xs) → LaysFrom new q (f x xs)) → LaysFrom new p (change first f runs)
@@ -148,7 +154,7 @@ relaid count old new first f p (x ∷ xs) place out sound h some near local = el
   | inl e ↦ subst (λ (rs : List Run). LaysFrom new p rs) (sym (change-here x xs first f e)) (local p x xs e (subst (λ (k : ℕ). prev_at old (descriptor k) ≡ p) e h.2) out sound refl h)
   | inr ne ↦ subst (λ (rs : List Run). LaysFrom new p rs) (sym (change-there x xs first f ne)) (there count old new first f p x xs place out sound h ne (omega (arith, some, pages_from-there x xs first ne)) (subst (λ (n : ℕ). Near old new first n (prev_at old (descriptor first)) (next_at old (descriptor first))) (pages_from-there x xs first ne) near)
       (relaid count old new first f (descriptor x.first) xs (inr (x.first, refl)) (outside count x xs sound) sound.3 h.4 (omega (arith, some, pages_from-there x xs first ne)) (subst (λ (n : ℕ). Near old new first n (prev_at old (descriptor first)) (next_at old (descriptor first))) (pages_from-there x xs first ne) near)
-        (λ q y ys ey pq oy sy same hy. local q y ys ey pq oy sy (same ∙ sym (pages_from-there x xs first ne)) hy)))
+      (λ q y ys ey pq oy sy same hy. local q y ys ey pq oy sy (same ∙ sym (pages_from-there x xs first ne)) hy)))
 ] where
   outside : (count : ℕ) (x : Run) (xs : List Run) → AreSound count (x ∷ xs) → Outside (descriptor x.first) xs
   outside count x xs sound page c e = let same = descriptor-injective page x.first e in elim (covers-apart x xs page sound.2 c) [ inl l ↦ omega (arith, l, same) | inr g ↦ omega (arith, g, same, sound.0) ]
@@ -177,16 +183,18 @@ relaid count old new first f p (x ∷ xs) place out sound h some near local = el
       let same_next : next_at new p ≡ next_at old p = elim place [
         | inl at ↦ subst (λ (o : ℕ). next_at new o ≡ next_at old o) (sym at) (near.head (λ e. elim prev [ inl pr ↦ descriptor-head x.first (sym pr ∙ sym e) | inr m ↦ descriptor-head m.0 (sym m.1 ∙ sym e) ]))
         | inr m ↦ subst (λ (o : ℕ). next_at new o ≡ next_at old o) (sym m.1) (near.nexts m.0 (elsewhere first m.0 x xs (λ c. out m.0 c (sym m.1))) (λ e. out m.0 (prev_covered m.0 (sym e)) (sym m.1)))
-      ] in
-      (same_next ∙ h.0, near.slabs x.first (beyond x.first (omega arith) (omega (arith, some_x))) ∙ h.1,
-       near.prevs x.first (beyond x.first (omega arith) (omega (arith, some_x))) (not_next x.first (omega arith) (omega (arith, some_x))) ∙ h.2,
-       HasTail-kept old new x (λ page low high. same_near old new first (pages_from first xs) a b page near (beyond page (omega (arith, low)) high) (not_prev page low high) (not_next page (omega (arith, low)) high)) h.3,
-       rest) where
-    elsewhere : (first page : ℕ) (x : Run) (xs : List Run) → (is_covered page (x ∷ xs) ≡ true → ⊥) → (page < first) ⊎ (first + pages_from first xs ≤ page)
-    elsewhere first page x xs never = elim (cases_lt page first) [
-      | inl l ↦ inl l
-      | inr g ↦ elim (cases_lt page (first + pages_from first xs)) [
-        | inl inside ↦ absurd (never (covered-rest x xs page (pages_from-covers first page xs g inside)))
-        | inr after ↦ inr after
-      ]
-    ]
+      ] in (
+        same_next ∙ h.0,
+        near.slabs x.first (beyond x.first (omega arith) (omega (arith, some_x))) ∙ h.1,
+        near.prevs x.first (beyond x.first (omega arith) (omega (arith, some_x))) (not_next x.first (omega arith) (omega (arith, some_x))) ∙ h.2,
+        HasTail-kept old new x (λ page low high. same_near old new first (pages_from first xs) a b page near (beyond page (omega (arith, low)) high) (not_prev page low high) (not_next page (omega (arith, low)) high)) h.3,
+        rest,
+      ) where
+        elsewhere : (first page : ℕ) (x : Run) (xs : List Run) → (is_covered page (x ∷ xs) ≡ true → ⊥) → (page < first) ⊎ (first + pages_from first xs ≤ page)
+        elsewhere first page x xs never = elim (cases_lt page first) [
+          | inl l ↦ inl l
+          | inr g ↦ elim (cases_lt page (first + pages_from first xs)) [
+            | inl inside ↦ absurd (never (covered-rest x xs page (pages_from-covers first page xs g inside)))
+            | inr after ↦ inr after
+          ]
+        ]

@@ -41,8 +41,8 @@ from-unique words o (x ∷ xs) (y ∷ ys) h k =
     let pages : x.pages ≡ y.pages = sym h.1 ∙ ap (λ n. slab_at words (descriptor n)) first ∙ k.1 in
     let rest = from-unique words (descriptor x.first) xs ys h.4 (subst (λ (n : ℕ). LaysFrom words (descriptor n) ys) (sym first) k.4) in
     ap (λ (zs : List Run). x ∷ zs) rest ∙ ap (λ (z : Run). z ∷ ys) (same x y first pages) where
-  same : (x y : Run) → x.first ≡ y.first → x.pages ≡ y.pages → x ≡ y
-  same x y first pages = grind (arith, common_steps)
+      same : (x y : Run) → x.first ≡ y.first → x.pages ≡ y.pages → x ≡ y
+      same x y first pages = grind (arith, common_steps)
 
 pub runs-unique : (image : Image) (xs ys : List Run) → LaysRuns image xs → LaysRuns image ys → xs ≡ ys
 runs-unique image xs ys h k = from-unique image.words free_head xs ys h.linked k.linked
@@ -54,16 +54,16 @@ set_other bytes words new runs w v low high h list run is =
     let not = others w list in
     list-runs bytes new runs (length-written words new w v is ∙ h.sized)
     (LaysList-kept (pages_of bytes) words new runs (length-written words new w v is)
-      (record { slab = get-written words new w v 6 is (λ e. not.0 (sym e)); next = get-written words new w v 7 is (λ e. not.1 (sym e)); prev = get-written words new w v 8 is (λ e. not.2 (sym e)) })
-      (λ page c. let far = beyond_run runs page w c run in record {
-        slab = get-written words new w v (descriptor page / 8) is (λ e. elim far [ inl l ↦ omega (arith, l, e) | inr g ↦ omega (arith, g, e) ]);
-        next = get-written words new w v (descriptor page / 8 + 1) is (λ e. elim far [ inl l ↦ omega (arith, l, e) | inr g ↦ omega (arith, g, e) ]);
-        prev = get-written words new w v (descriptor page / 8 + 2) is (λ e. elim far [ inl l ↦ omega (arith, l, e) | inr g ↦ omega (arith, g, e) ]);
-      })
-      (runs-list image runs low high h))
+    (record { slab = get-written words new w v 6 is (λ e. not.0 (sym e)); next = get-written words new w v 7 is (λ e. not.1 (sym e)); prev = get-written words new w v 8 is (λ e. not.2 (sym e)) })
+    (λ page c. let far = beyond_run runs page w c run in record {
+      slab = get-written words new w v (descriptor page / 8) is (λ e. elim far [ inl l ↦ omega (arith, l, e) | inr g ↦ omega (arith, g, e) ]);
+      next = get-written words new w v (descriptor page / 8 + 1) is (λ e. elim far [ inl l ↦ omega (arith, l, e) | inr g ↦ omega (arith, g, e) ]);
+      prev = get-written words new w v (descriptor page / 8 + 2) is (λ e. elim far [ inl l ↦ omega (arith, l, e) | inr g ↦ omega (arith, g, e) ]);
+    })
+    (runs-list image runs low high h))
     (get-written words new w v pfree is (λ e. not.3 (sym e)) ∙ h.counted) where
-  others : (w : ℕ) → is_list_word w ≡ false → (w ≢ 6) × (w ≢ 7) × (w ≢ 8) × (w ≢ 10)
-  others w list = (λ e. grind (arith, common_steps), λ e. grind (arith, common_steps), λ e. grind (arith, common_steps), λ e. grind (arith, common_steps))
+      others : (w : ℕ) → is_list_word w ≡ false → (w ≢ 6) × (w ≢ 7) × (w ≢ 8) × (w ≢ 10)
+      others w list = (λ e. grind (arith, common_steps), λ e. grind (arith, common_steps), λ e. grind (arith, common_steps), λ e. grind (arith, common_steps))
 
 pub taken-runs : (bytes : ℕ) (words new : List ℕ) (runs : List Run) (first n : ℕ) → LaysRuns (record { bytes = bytes; words = words }) runs → TakesRun (pages_of bytes) runs words new first n → page_total (take_run n runs) + n ≡ page_total runs → LaysRuns (record { bytes = bytes; words = new }) (take_run n runs)
 taken-runs bytes words new runs first n h takes total = list-runs bytes new (take_run n runs) (takes.kept.same_length ∙ h.sized) takes.laid (omega (arith, takes.counted, h.counted, total))

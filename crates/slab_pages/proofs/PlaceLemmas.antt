@@ -23,7 +23,6 @@ descriptor-injective m n e = omega arith
 pub descriptor-other : (m n : ℕ) → m ≢ n → descriptor m ≢ descriptor n
 descriptor-other m n ne e = ne (descriptor-injective m n e)
 
-
 -- two places have three words each
 pub places_apart : (x y : ℕ) → IsPlace x → IsPlace y → x ≢ y → (x / 8 + 3 ≤ y / 8) ⊎ (y / 8 + 3 ≤ x / 8)
 places_apart x y px py ne = elim px [
@@ -70,22 +69,22 @@ Links-next old new a b x pa pb px ne h =
     h.others (x / 8 + 1)
     (λ e. let apart = places_apart x a px pa ne in elim apart [ inl l ↦ omega (arith, l, e) | inr g ↦ omega (arith, g, e) ])
     (λ e. one_two x b px pb e) where
-  one_two : (x a : ℕ) → IsPlace x → IsPlace a → x / 8 + 1 ≢ a / 8 + 2
-  one_two x a px pa e = elim (cases_eq x a) [
-    | inl same ↦ let w = ap (λ o. o / 8) same in omega (arith, w, e)
-    | inr ne ↦ let apart = places_apart x a px pa ne in elim apart [ inl l ↦ omega (arith, l, e) | inr g ↦ omega (arith, g, e) ]
-  ]
+      one_two : (x a : ℕ) → IsPlace x → IsPlace a → x / 8 + 1 ≢ a / 8 + 2
+      one_two x a px pa e = elim (cases_eq x a) [
+        | inl same ↦ let w = ap (λ o. o / 8) same in omega (arith, w, e)
+        | inr ne ↦ let apart = places_apart x a px pa ne in elim apart [ inl l ↦ omega (arith, l, e) | inr g ↦ omega (arith, g, e) ]
+      ]
 
 pub Links-prev : (old new : List ℕ) (a b x : ℕ) → IsPlace a → IsPlace b → IsPlace x → x ≢ b → Links old new a b → prev_at new x ≡ prev_at old x
 Links-prev old new a b x pa pb px ne h =
     h.others (x / 8 + 2)
     (λ e. two_one x a px pa e)
     (λ e. let apart = places_apart x b px pb ne in elim apart [ inl l ↦ omega (arith, l, e) | inr g ↦ omega (arith, g, e) ]) where
-  two_one : (x a : ℕ) → IsPlace x → IsPlace a → x / 8 + 2 ≢ a / 8 + 1
-  two_one x a px pa e = elim (cases_eq x a) [
-    | inl same ↦ let w = ap (λ o. o / 8) same in omega (arith, w, e)
-    | inr ne ↦ let apart = places_apart x a px pa ne in elim apart [ inl l ↦ omega (arith, l, e) | inr g ↦ omega (arith, g, e) ]
-  ]
+      two_one : (x a : ℕ) → IsPlace x → IsPlace a → x / 8 + 2 ≢ a / 8 + 1
+      two_one x a px pa e = elim (cases_eq x a) [
+        | inl same ↦ let w = ap (λ o. o / 8) same in omega (arith, w, e)
+        | inr ne ↦ let apart = places_apart x a px pa ne in elim apart [ inl l ↦ omega (arith, l, e) | inr g ↦ omega (arith, g, e) ]
+      ]
 
 -- the head keeps its prev
 pub Links-prev_head : (old new : List ℕ) (a b : ℕ) → IsPlace a → IsPlace b → Links old new a b → prev_at new free_head ≡ prev_at old free_head

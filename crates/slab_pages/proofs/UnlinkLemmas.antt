@@ -32,9 +32,10 @@ covered-of_without (x ∷ xs) first page c = let ih = covered-of_without xs firs
 pub run_at : (count : ℕ) (words : List ℕ) (p : ℕ) (runs : List Run) (first : ℕ) → AreSound count runs → LaysFrom words p runs → 0 < pages_from first runs → (slab_at words (descriptor first) ≡ pages_from first runs) × HasTail words (record { first = first; pages = pages_from first runs })
 run_at count words p [] first sound h some = absurd (omega arith)
 run_at count words p (x ∷ xs) first sound h some = elim (cases_eq x.first first) [
-  | inl e ↦
-      (subst (λ (k : ℕ). slab_at words (descriptor k) ≡ pages_from first (x ∷ xs)) e (h.1 ∙ sym (pages_from-here x xs first e)),
-       subst (λ (k : ℕ). HasTail words (record { first = k; pages = pages_from first (x ∷ xs) })) e (subst (λ (n : ℕ). HasTail words (record { first = x.first; pages = n })) (sym (pages_from-here x xs first e)) h.3))
+  | inl e ↦ (
+    subst (λ (k : ℕ). slab_at words (descriptor k) ≡ pages_from first (x ∷ xs)) e (h.1 ∙ sym (pages_from-here x xs first e)),
+    subst (λ (k : ℕ). HasTail words (record { first = k; pages = pages_from first (x ∷ xs) })) e (subst (λ (n : ℕ). HasTail words (record { first = x.first; pages = n })) (sym (pages_from-here x xs first e)) h.3),
+  )
   | inr ne ↦
       let ih = run_at count words (descriptor x.first) xs first sound.3 h.4 (omega (arith, some, pages_from-there x xs first ne)) in
       subst (λ (n : ℕ). (slab_at words (descriptor first) ≡ n) × HasTail words (record { first = first; pages = n })) (sym (pages_from-there x xs first ne)) ih
@@ -154,10 +155,10 @@ unlinked count runs first old new h some links =
         prev_is = Links-prev_head old new a b pa pb links ∙ h.prev_is;
         linked = relaid count old new first (λ x xs. xs) free_head runs (inl refl) (λ page c. descriptor-head page) h.sound h.linked some near
             (λ q x xs e pq out sound same hx.
-              relink count old new q a x xs sound.2 sound.3 (λ page c eq. out page (covered-rest x xs page c) (eq ∙ pq)) (near_here old new first (pages_from first runs) x xs e same near)
-              (subst (λ (o : ℕ). next_at new o ≡ next_at old (descriptor x.first)) pq (links.next ∙ ap (λ k. next_at old (descriptor k)) (sym e)))
-              (subst (λ (k : ℕ). next_at old (descriptor k) ≢ free_head → prev_at new (next_at old (descriptor k)) ≡ q) (sym e) (λ ne. links.prev ne ∙ pq))
-              hx.4);
+            relink count old new q a x xs sound.2 sound.3 (λ page c eq. out page (covered-rest x xs page c) (eq ∙ pq)) (near_here old new first (pages_from first runs) x xs e same near)
+            (subst (λ (o : ℕ). next_at new o ≡ next_at old (descriptor x.first)) pq (links.next ∙ ap (λ k. next_at old (descriptor k)) (sym e)))
+            (subst (λ (k : ℕ). next_at old (descriptor k) ≢ free_head → prev_at new (next_at old (descriptor k)) ≡ q) (sym e) (λ ne. links.prev ne ∙ pq))
+            hx.4);
       };
       own = λ page low high. record {
         slab = Links-slab old new a b (descriptor page) pa pb (inr (page, refl)) links;
@@ -187,8 +188,8 @@ detached count runs first pages old mid next new h some is un one two =
     let last = first + pages - 1 in
     let tail = (run_at count old free_head runs first h.sound h.linked some).1 in
     let same = λ (page : ℕ) (n1 : page ≢ first) (n2 : page ≢ last). SameWords-then mid next new (descriptor page)
-        (SetsWords-other mid next (descriptor first) 0 0 0 (descriptor page) (inr (first, refl)) (inr (page, refl)) (descriptor-other page first n1) one)
-        (SetsWords-other next new (descriptor last) 0 0 0 (descriptor page) (inr (last, refl)) (inr (page, refl)) (descriptor-other page last n2) two) in
+    (SetsWords-other mid next (descriptor first) 0 0 0 (descriptor page) (inr (first, refl)) (inr (page, refl)) (descriptor-other page first n1) one)
+    (SetsWords-other next new (descriptor last) 0 0 0 (descriptor page) (inr (last, refl)) (inr (page, refl)) (descriptor-other page last n2) two) in
     let c1 = pages_from-covers first first runs (omega arith) (omega (arith, some)) in
     let c2 = pages_from-covers first last runs (omega (arith, some, is)) (omega (arith, some, is)) in
     record {
@@ -207,8 +208,8 @@ detached count runs first pages old mid next new h some is un one two =
       kept = kept_then runs old next new (kept_then runs old mid next un.kept (sets_kept mid next runs first 0 0 0 c1 one)) (sets_kept next new runs last 0 0 0 c2 two);
       free = sets_free next new last 0 0 0 two ∙ sets_free mid next first 0 0 0 one ∙ un.free;
     } where
-  not_first : (page : ℕ) → (page < first) ⊎ (first + pages_from first runs ≤ page) → page ≢ first
-  not_first page beyond e = elim beyond [ inl l ↦ omega (arith, l, e) | inr g ↦ omega (arith, g, e, some) ]
+      not_first : (page : ℕ) → (page < first) ⊎ (first + pages_from first runs ≤ page) → page ≢ first
+      not_first page beyond e = elim beyond [ inl l ↦ omega (arith, l, e) | inr g ↦ omega (arith, g, e, some) ]
 
-  not_last : (page : ℕ) → (page < first) ⊎ (first + pages_from first runs ≤ page) → page ≢ first + pages - 1
-  not_last page beyond e = elim beyond [ inl l ↦ omega (arith, l, e, is, some) | inr g ↦ omega (arith, g, e, some, is) ]
+      not_last : (page : ℕ) → (page < first) ⊎ (first + pages_from first runs ≤ page) → page ≢ first + pages - 1
+      not_last page beyond e = elim beyond [ inl l ↦ omega (arith, l, e, is, some) | inr g ↦ omega (arith, g, e, some, is) ]

@@ -3,6 +3,7 @@
 
 mod descriptors;
 pub mod geometry;
+mod opening;
 pub mod pages;
 mod runs;
 

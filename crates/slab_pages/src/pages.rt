@@ -4,10 +4,14 @@ ghost use Rattle.slab_model.specs.Geometry.{pages_of};
 ghost use Rattle.slab_model.specs.Runs.{first_fit, give_run, page_total, take_run};
 ghost use Rattle.slab_pages.specs.Places.{Image, KeepsOthers, is_list_word, is_run_word};
 ghost use Rattle.slab_pages.specs.Layout.{HasUsedRun, IsUsed, LaysRuns};
+ghost use Rattle.slab_pages.specs.SlabLayout.{IsOpened};
 
 use crate::geometry::Geometry;
-use crate::runs::{PFREE, find_fit, give_pages, take_pages};
+use crate::opening::prepare;
+use crate::runs::{PFREE, add_run, find_fit, give_pages, take_pages};
+use std::alloc::Global;
 use std::marker::Model;
+use zone_outside::NoMemory;
 use zone_region::Region;
 
 /// A page of a zone, by its number from 0.
@@ -37,12 +41,24 @@ impl Model for Pages {
 
     ghost view = { λ p. record { bytes = p.geometry.bytes; words = p.region } };
 
-    ghost invariant = {
-        λ p. ((runs : List Run) × LaysRuns (record { bytes = p.geometry.bytes; words = p.region }) runs)
-    };
+    ghost invariant = { λ p. ((runs : List Run) × LaysRuns (record { bytes = p.geometry.bytes; words = p.region }) runs) };
 }
 
 impl Pages {
+    /// A fresh zone: all pages are free, in one run, and the header is written.
+    pub fn open(alloc: Global, g: Geometry) -> Result<Pages, NoMemory>
+        ensures { IfOk result (λ pages. IsOpened g.bytes pages) }
+    {
+        let mut region = Region::zeroed(alloc, g.bytes / 8)?;
+        prepare(&mut region, &g);
+        add_run(&mut region, 0, g.pages);
+        region.store(PFREE, g.pages);
+        Ok(Pages {
+            region,
+            geometry: g,
+        })
+    }
+
     /// How the zone is cut.
     pub fn geometry(&self) -> Geometry
         ensures { result.bytes ≡ self.now.bytes }
@@ -82,10 +98,8 @@ impl Pages {
     /// It takes time linear in the number of free runs and of pages taken.
     pub fn take(&mut self, n: u64) -> Option<Page>
         requires { 0 < n }
-        ensures page {
-            (runs : List Run) → LaysRuns self.old runs →
-            MatchOption result (first_fit n runs ≡ None) (λ p. first_fit n runs ≡ Some p.number)
-        }
+        ensures page { (runs : List Run) → LaysRuns self.old runs →
+            MatchOption result (first_fit n runs ≡ None) (λ p. first_fit n runs ≡ Some p.number) }
         ensures laid { (runs : List Run) → LaysRuns self.old runs → LaysRuns self.new (take_run n runs) }
         ensures used { IfSome result (λ p. HasUsedRun self.new.words p.number n) }
         ensures kept { (runs : List Run) → LaysRuns self.old runs → KeepsOthers runs self.old.words self.new.words }
@@ -106,18 +120,12 @@ impl Pages {
     ///
     /// It reads the descriptors next to the run and doesn't walk the list, so its time doesn't grow with it.
     pub fn put(&mut self, p: Page, n: u64)
-        requires {
-            let run : Run = record { first = p.number; pages = n } in
-            ((runs : List Run) × LaysRuns self.old runs × IsUsed (pages_of self.old.bytes) self.old.words runs run)
-        }
-        ensures laid {
-            let run : Run = record { first = p.number; pages = n } in
-            (runs : List Run) → LaysRuns self.old runs → LaysRuns self.new (give_run run runs)
-        }
-        ensures kept {
-            let run : Run = record { first = p.number; pages = n } in
-            (runs : List Run) → LaysRuns self.old runs → KeepsOthers (give_run run runs) self.old.words self.new.words
-        }
+        requires { let run : Run = record { first = p.number; pages = n } in
+            ((runs : List Run) × LaysRuns self.old runs × IsUsed (pages_of self.old.bytes) self.old.words runs run) }
+        ensures laid { let run : Run = record { first = p.number; pages = n } in
+            (runs : List Run) → LaysRuns self.old runs → LaysRuns self.new (give_run run runs) }
+        ensures kept { let run : Run = record { first = p.number; pages = n } in
+            (runs : List Run) → LaysRuns self.old runs → KeepsOthers (give_run run runs) self.old.words self.new.words }
         ensures bytes { self.new.bytes ≡ self.old.bytes }
     {
         give_pages(&mut self.region, self.geometry.pages, p.number, n);

@@ -5,7 +5,9 @@ ghost use Rattle.slab_pages.specs.Places.{descriptor, next_at, pfree, prev_at};
 ghost use Rattle.slab_pages.specs.Layout.{IsUsed};
 ghost use Rattle.slab_pages.specs.Steps.{Detaches, GivesRun, IsAfter, IsBefore, IsCleared, LaysList, MarksUsed, Relists, TakesRun, Unlinks, start_at};
 
-use crate::descriptors::{FREE_HEAD, begin_run, fill, link, next, offset_of, page_of, prev, set_words, slab};
+use crate::descriptors::{
+    FREE_HEAD, begin_run, fill, link, next, offset_of, page_of, prev, set_words, slab,
+};
 use zone_region::Region;
 
 /// The word that counts the free pages.
@@ -39,10 +41,8 @@ pub(crate) fn find_fit(region: &Region, n: u64) -> Option<u64>
 // Takes the run that begins at page `first` out of the list.
 fn unlink(region: &mut Region, first: u64)
     requires { ((count : ℕ) × (runs : List Run) × LaysList count region.old runs × (0 < pages_from first runs)) }
-    ensures {
-        (count : ℕ) (runs : List Run) → LaysList count region.old runs → 0 < pages_from first runs →
-        Unlinks count runs region.old region.new first
-    }
+    ensures { (count : ℕ) (runs : List Run) → LaysList count region.old runs → 0 < pages_from first runs →
+        Unlinks count runs region.old region.new first }
 {
     let o = offset_of(first);
     let before = prev(region, o);
@@ -53,15 +53,11 @@ fn unlink(region: &mut Region, first: u64)
 // Puts what is left of a run, once its first `n` pages are taken, in its place in the list.
 fn shorten(region: &mut Region, first: u64, n: u64, pages: u64)
     requires some { 0 < n }
-    requires laid {
-        ((count : ℕ) × (runs : List Run) × LaysList count region.old runs ×
-        (first_fit n runs ≡ Some first) × (pages ≡ pages_from first runs) × (n < pages))
-    }
-    ensures {
-        (count : ℕ) (runs : List Run) → LaysList count region.old runs →
+    requires laid { ((count : ℕ) × (runs : List Run) × LaysList count region.old runs ×
+        (first_fit n runs ≡ Some first) × (pages ≡ pages_from first runs) × (n < pages)) }
+    ensures { (count : ℕ) (runs : List Run) → LaysList count region.old runs →
         first_fit n runs ≡ Some first → pages ≡ pages_from first runs → n < pages →
-        Relists count runs (take_run n runs) region.old region.new
-    }
+        Relists count runs (take_run n runs) region.old region.new }
 {
     let o = offset_of(first);
     let before = prev(region, o);
@@ -76,10 +72,8 @@ fn shorten(region: &mut Region, first: u64, n: u64, pages: u64)
 fn cut(region: &mut Region, first: u64, n: u64)
     requires some { 0 < n }
     requires laid { ((count : ℕ) × (runs : List Run) × LaysList count region.old runs × (first_fit n runs ≡ Some first)) }
-    ensures {
-        (count : ℕ) (runs : List Run) → LaysList count region.old runs → first_fit n runs ≡ Some first →
-        Relists count runs (take_run n runs) region.old region.new
-    }
+    ensures { (count : ℕ) (runs : List Run) → LaysList count region.old runs → first_fit n runs ≡ Some first →
+        Relists count runs (take_run n runs) region.old region.new }
 {
     let pages = slab(region, offset_of(first));
     if pages == n {
@@ -103,10 +97,8 @@ fn mark_used(region: &mut Region, first: u64, n: u64)
 // Takes the run that begins at page `first` out of the list, clears its descriptors, and gives its pages.
 fn detach(region: &mut Region, first: u64) -> u64
     requires { ((count : ℕ) × (runs : List Run) × LaysList count region.old runs × (0 < pages_from first runs)) }
-    ensures {
-        (count : ℕ) (runs : List Run) → LaysList count region.old runs → 0 < pages_from first runs →
-        Detaches count runs region.old region.new first result
-    }
+    ensures { (count : ℕ) (runs : List Run) → LaysList count region.old runs → 0 < pages_from first runs →
+        Detaches count runs region.old region.new first result }
 {
     let o = offset_of(first);
     let pages = slab(region, o);
@@ -129,15 +121,17 @@ fn is_first(region: &Region, page: u64) -> bool
 // Detaches the run that begins at this page, where one does, and gives its pages.
 fn detach_after(region: &mut Region, page: u64, count: u64) -> u64
     requires { ((runs : List Run) × LaysList count region.old runs × IsAfter count region.old runs page) }
-    ensures {
-        (runs : List Run) → LaysList count region.old runs → IsAfter count region.old runs page →
-        Detaches count runs region.old region.new page result
-    }
+    ensures { (runs : List Run) → LaysList count region.old runs → IsAfter count region.old runs page →
+        Detaches count runs region.old region.new page result }
 {
     if page == count {
         return 0;
     }
-    if is_first(region, page) { detach(region, page) } else { 0 }
+    if is_first(region, page) {
+        detach(region, page)
+    } else {
+        0
+    }
 }
 
 // The first descriptor of the run whose last one is at `o`.
@@ -145,18 +139,20 @@ fn start_of_run(region: &Region, o: u64) -> u64
     requires { o / 8 + 2 < length region.now }
     ensures { result ≡ start_at region.now o }
 {
-    if slab(region, o) == 0 { prev(region, o) } else { o }
+    if slab(region, o) == 0 {
+        prev(region, o)
+    } else {
+        o
+    }
 }
 
 // The first page of the free run that ends right before this page, none where the page before isn't free.
 fn run_before(region: &Region, page: u64) -> Option<u64>
     requires { ((count : ℕ) × (runs : List Run) × LaysList count region.now runs × IsBefore count region.now runs page) }
-    ensures {
-        (count : ℕ) (runs : List Run) → LaysList count region.now runs → IsBefore count region.now runs page →
+    ensures { (count : ℕ) (runs : List Run) → LaysList count region.now runs → IsBefore count region.now runs page →
         MatchOption result
-            (pages_before page runs ≡ 0)
-            (λ first. (0 < pages_before page runs) × (first + pages_before page runs ≡ page))
-    }
+        (pages_before page runs ≡ 0)
+        (λ first. (0 < pages_before page runs) × (first + pages_before page runs ≡ page)) }
 {
     let last = offset_of(page - 1);
     if prev(region, last) % 4 != 0 {
@@ -171,14 +167,10 @@ fn run_before(region: &Region, page: u64) -> Option<u64>
 
 // Detaches the run that ends right before this page, where one does, and gives its pages.
 fn detach_before(region: &mut Region, page: u64) -> u64
-    requires {
-        ((count : ℕ) × (runs : List Run) × LaysList count region.old runs × ((page ≡ 0) ⊎ IsBefore count region.old runs page))
-    }
-    ensures {
-        (count : ℕ) (runs : List Run) → LaysList count region.old runs → (page ≡ 0) ⊎ IsBefore count region.old runs page →
+    requires { ((count : ℕ) × (runs : List Run) × LaysList count region.old runs × ((page ≡ 0) ⊎ IsBefore count region.old runs page)) }
+    ensures { (count : ℕ) (runs : List Run) → LaysList count region.old runs → (page ≡ 0) ⊎ IsBefore count region.old runs page →
         is_covered page runs ≡ false →
-        (result ≡ pages_before page runs) × Detaches count runs region.old region.new (page - result) result
-    }
+        (result ≡ pages_before page runs) × Detaches count runs region.old region.new (page - result) result }
 {
     if page == 0 {
         return 0;
@@ -190,16 +182,12 @@ fn detach_before(region: &mut Region, page: u64) -> u64
 }
 
 // Puts a run whose descriptors are cleared at the head of the list.
-fn add_run(region: &mut Region, first: u64, pages: u64)
-    requires {
-        ((count : ℕ) × (runs : List Run) × LaysList count region.old runs ×
-        IsCleared count region.old runs (record { first = first; pages = pages }))
-    }
-    ensures {
-        let run : Run = record { first = first; pages = pages } in
+pub(crate) fn add_run(region: &mut Region, first: u64, pages: u64)
+    requires { ((count : ℕ) × (runs : List Run) × LaysList count region.old runs ×
+        IsCleared count region.old runs (record { first = first; pages = pages })) }
+    ensures { let run : Run = record { first = first; pages = pages } in
         (count : ℕ) (runs : List Run) → LaysList count region.old runs → IsCleared count region.old runs run →
-        Relists count (run ∷ runs) (run ∷ runs) region.old region.new
-    }
+        Relists count (run ∷ runs) (run ∷ runs) region.old region.new }
 {
     let o = offset_of(first);
     let head = next(region, FREE_HEAD);
@@ -211,15 +199,11 @@ fn add_run(region: &mut Region, first: u64, pages: u64)
 // Takes `n` pages from the run that begins at page `first`, the first fit, and counts them.
 pub(crate) fn take_pages(region: &mut Region, first: u64, n: u64)
     requires some { 0 < n }
-    requires laid {
-        ((count : ℕ) × (runs : List Run) × LaysList count region.old runs × (first_fit n runs ≡ Some first) ×
-        (slice_index region.old pfree ≡ page_total runs))
-    }
-    ensures {
-        (count : ℕ) (runs : List Run) → LaysList count region.old runs → first_fit n runs ≡ Some first →
+    requires laid { ((count : ℕ) × (runs : List Run) × LaysList count region.old runs × (first_fit n runs ≡ Some first) ×
+        (slice_index region.old pfree ≡ page_total runs)) }
+    ensures { (count : ℕ) (runs : List Run) → LaysList count region.old runs → first_fit n runs ≡ Some first →
         slice_index region.old pfree ≡ page_total runs →
-        TakesRun count runs region.old region.new first n
-    }
+        TakesRun count runs region.old region.new first n }
 {
     cut(region, first, n);
     mark_used(region, first, n);
@@ -229,17 +213,13 @@ pub(crate) fn take_pages(region: &mut Region, first: u64, n: u64)
 
 // Gives `n` pages from page `first` on back to a zone of `count` pages, and counts them.
 pub(crate) fn give_pages(region: &mut Region, count: u64, first: u64, n: u64)
-    requires {
-        let run : Run = record { first = first; pages = n } in
+    requires { let run : Run = record { first = first; pages = n } in
         ((runs : List Run) × LaysList count region.old runs × IsUsed count region.old runs run ×
-        (slice_index region.old pfree ≡ page_total runs))
-    }
-    ensures {
-        let run : Run = record { first = first; pages = n } in
+        (slice_index region.old pfree ≡ page_total runs)) }
+    ensures { let run : Run = record { first = first; pages = n } in
         (runs : List Run) → LaysList count region.old runs → IsUsed count region.old runs run →
         slice_index region.old pfree ≡ page_total runs →
-        GivesRun count runs region.old region.new run
-    }
+        GivesRun count runs region.old region.new run }
 {
     fill(region, first, n, 0);
     let after = detach_after(region, first + n, count);
