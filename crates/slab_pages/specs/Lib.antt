@@ -1,0 +1,5 @@
+pub mod Places
+pub mod Layout
+pub mod Steps
+pub mod SlabLayout
+pub mod Opening

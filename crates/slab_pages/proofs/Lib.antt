@@ -1,0 +1,12 @@
+pub mod PlaceLemmas
+pub mod ListLemmas
+pub mod WriteLemmas
+pub mod UnlinkLemmas
+pub mod AddLemmas
+pub mod CutLemmas
+pub mod JoinLemmas
+pub mod EdgeLemmas
+pub mod GiveLemmas
+pub mod WalkLemmas
+pub mod PagesLemmas
+pub mod OpeningLemmas

@@ -1,0 +1,243 @@
+-- The words of a fresh zone.
+use Rattle.std.proofs.Common.{ℕ, ◌≡◌, ◌≢◌, ◌⊎◌, zero, suc, ◌+◌, ◌*◌, ◌-◌, ◌/◌, ◌%◌, ◌<◌, ◌≤◌, Bool, true, false, ◌&&◌, cond, List, [], ◌∷◌, length, get_or, set, take, sym, ap, subst, ◌∙◌, refl, arith, inl, inr}
+use Rattle.std.specs.Prelude.{nat_eq, nat_lt, if◌then◌else◌, replicate}
+use Rattle.std.proofs.lemmas.Grind.{common_steps}
+use Rattle.std.proofs.lemmas.Bool.{cases_eq, cases_lt}
+use Rattle.std.proofs.lemmas.List.{length-set, length-replicate}
+use Rattle.slab_model.specs.declared.runs.Run.{Run}
+use Rattle.slab_model.specs.declared.page.PageState.{PageState}
+use Rattle.slab_model.specs.declared.page.PageState.TheVariants.{Free, First, Class}
+use Rattle.slab_model.specs.Geometry.{pages_of, most_pages, start_of, least_zone, greatest_zone, class_count}
+use Rattle.slab_model.specs.Runs.{AreSound, is_covered, page_total}
+use Rattle.slab_model.specs.Slab.{Slab, page_at, list_of, stat_of, no_stat, opened}
+use Rattle.slab_pages.specs.Places.{Image, free_head, pfree, descriptor, slab_at, next_at, prev_at, HasWords, KeepsOthers, is_list_word, is_run_word}
+use Rattle.slab_pages.specs.Layout.{LaysFrom, LaysRuns}
+use Rattle.slab_pages.specs.Steps.{LaysList, IsCleared, Relists}
+use Rattle.slab_pages.specs.SlabLayout.{LaysHeader, LaysClass, LaysStat, LaysSlab, IsOpened, class_head, stat_word}
+use Rattle.slab_pages.specs.Opening.{all_below, put_all, WritesHeads, IsPrepared}
+use Rattle.slab_pages.proofs.PlaceLemmas.{descriptor-word}
+use Rattle.slab_pages.proofs.WriteLemmas.{get-written, get-read, length-written}
+use Rattle.slab_pages.proofs.GiveLemmas.{counted_list}
+use Rattle.slab_pages.proofs.PagesLemmas.{pages-room, list-runs}
+
+-- the value of a word once the entries are written
+abbrev pub found : List (ℕ × ℕ) → ℕ → ℕ → ℕ
+found [] w before = before
+found (e ∷ es) w before = found es w (if nat_eq w e.0 then e.1 else before)
+
+pub length-put : (es : List (ℕ × ℕ)) (words : List ℕ) → length (put_all es words) ≡ length words
+length-put [] words = refl
+length-put (e ∷ es) words = length-put es (set words e.0 e.1) ∙ length-set words e.0 e.1
+
+pub get-put : (n : ℕ) (es : List (ℕ × ℕ)) (words : List ℕ) (w : ℕ) → n ≤ length words → all_below n es ≡ true → get_or (put_all es words) w 0 ≡ found es w (get_or words w 0)
+get-put n [] words w room below = refl
+get-put n (e ∷ es) words w room below =
+    get-put n es (set words e.0 e.1) w (omega (arith, room, length-set words e.0 e.1)) (rest n e es below) ∙ ap (λ v. found es w v) (one words e.0 e.1 w (first n e es below room)) where
+      rest : (n : ℕ) (e : ℕ × ℕ) (es : List (ℕ × ℕ)) → all_below n (e ∷ es) ≡ true → all_below n es ≡ true
+      rest n e es h = grind (arith, common_steps)
+
+      first : (n : ℕ) (e : ℕ × ℕ) (es : List (ℕ × ℕ)) → all_below n (e ∷ es) ≡ true → n ≤ length words → e.0 < length words
+      first n e es h room = grind (arith, common_steps)
+
+      one : (words : List ℕ) (i v w : ℕ) → i < length words → get_or (set words i v) w 0 ≡ (if nat_eq w i then v else get_or words w 0)
+      one words i v w h = elim (cases_eq w i) [
+        | inl e ↦ subst (λ (k : ℕ). get_or (set words i v) k 0 ≡ (if nat_eq k i then v else get_or words k 0)) (sym e) (get-read words (set words i v) i v refl h ∙ sym (same i v (get_or words i 0)))
+        | inr ne ↦ get-written words (set words i v) i v w refl ne ∙ sym (other w i v (get_or words w 0) ne)
+      ] where
+        same : (i v d : ℕ) → (if nat_eq i i then v else d) ≡ v
+        same i v d = grind (arith, common_steps)
+
+        other : (w i v d : ℕ) → w ≢ i → (if nat_eq w i then v else d) ≡ d
+        other w i v d ne = grind (arith, common_steps)
+
+-- every word of zeros is 0
+get-zeros : {X : Type 0} → (n i : ℕ) (x : X) → get_or (replicate n x) i x ≡ x
+get-zeros zero i x = refl
+get-zeros (suc n) zero x = refl
+get-zeros (suc n) (suc i) x = get-zeros n i x
+
+-- one more head is written
+pub heads_none : (words : List ℕ) → WritesHeads words words 0
+heads_none words = record { same_length = refl; heads = λ class low. absurd (omega (arith, low)); others = λ w far. refl }
+
+pub heads_more : (old mid new : List ℕ) (count : ℕ) → WritesHeads old mid count → 26 + 3 * count < length mid → new ≡ set mid (26 + 3 * count) (class_head count) → WritesHeads old new (count + 1)
+heads_more old mid new count h room is = record {
+  same_length = length-written mid new (26 + 3 * count) (class_head count) is ∙ h.same_length;
+  heads = λ class low. elim (cases_eq class count) [
+    | inl e ↦ subst (λ (k : ℕ). get_or new (26 + 3 * k) 0 ≡ class_head k) (sym e) (get-read mid new (26 + 3 * count) (class_head count) is room)
+    | inr ne ↦ get-written mid new (26 + 3 * count) (class_head count) (26 + 3 * class) is (λ e. ne (omega (arith, e))) ∙ h.heads class (omega (arith, low, ne))
+  ];
+  others = λ w far. get-written mid new (26 + 3 * count) (class_head count) w is (away w far) ∙ h.others w (wider w far);
+} where
+  away : (w : ℕ) → (w < 26) ⊎ (26 + 3 * (count + 1) ≤ w) ⊎ (w % 3 ≢ 2) → w ≢ 26 + 3 * count
+  away w far e = elim far [ inl l ↦ omega (arith, l, e) | inr r ↦ elim r [ inl g ↦ omega (arith, g, e) | inr m ↦ m (omega (arith, e)) ] ]
+
+  wider : (w : ℕ) → (w < 26) ⊎ (26 + 3 * (count + 1) ≤ w) ⊎ (w % 3 ≢ 2) → (w < 26) ⊎ (26 + 3 * count ≤ w) ⊎ (w % 3 ≢ 2)
+  wider w far = elim far [ inl l ↦ inl l | inr r ↦ elim r [ inl g ↦ inr (inl (omega (arith, g))) | inr m ↦ inr (inr m) ] ]
+
+-- the header's entries
+abbrev pub header_entries : ℕ → List (ℕ × ℕ)
+header_entries bytes = (2, 8) ∷ (3, 3) ∷ (4, descriptor 0) ∷ (5, descriptor (pages_of bytes)) ∷ (7, free_head) ∷ (9, 416) ∷ (11, start_of bytes) ∷ (12, bytes) ∷ []
+
+pub prepared : (bytes : ℕ) (zeros mid new : List ℕ) → least_zone ≤ bytes → zeros ≡ replicate (bytes / 8) 0 → mid ≡ put_all (header_entries bytes) zeros → WritesHeads mid new 9 → IsPrepared bytes new
+prepared bytes zeros mid new low z is heads =
+    let sized : length zeros ≡ bytes / 8 = ap (λ ws. length ws) z ∙ length-replicate (bytes / 8) 0 in
+    let none = λ (w : ℕ). ap (λ ws. get_or ws w 0) z ∙ get-zeros (bytes / 8) w 0 in
+    let at = λ (w : ℕ). ap (λ ws. get_or ws w 0) is ∙ get-put 88 (header_entries bytes) zeros w (omega (arith, sized, low)) refl ∙ ap (λ v. found (header_entries bytes) w v) (none w) in
+    let far = λ (w : ℕ) (big : 13 ≤ w). at w ∙ missing bytes w big in
+    let small = λ (w : ℕ) (less : w < 26). heads.others w (inl less) ∙ at w in
+    record {
+      sized = heads.same_length ∙ ap (λ ws. length ws) is ∙ length-put (header_entries bytes) zeros ∙ sized;
+      header = record {
+        lock = small 0 (omega arith);
+        wait = small 1 (omega arith);
+        min_size = small 2 (omega arith);
+        min_shift = small 3 (omega arith);
+        pages = small 4 (omega arith);
+        last = small 5 (omega arith);
+        stats = small 9 (omega arith);
+        start = small 11 (omega arith);
+        end = small 12 (omega arith);
+        mutex = λ w above below. heads.others w (inl (omega (arith, below))) ∙ far w above;
+        zero = small 21 (omega arith);
+        log_nomem = small 22 (omega arith);
+        addr = small 24 (omega arith);
+      };
+      list = record { slab_is = small 6 (omega arith); next_is = small 7 (omega arith); prev_is = small 8 (omega arith) };
+      heads = λ class less. record {
+        slab_is = subst (λ (w : ℕ). get_or new w 0 ≡ 0) (omega arith) (heads.others (25 + 3 * class) (inr (inr (λ e. omega (arith, e)))) ∙ far (25 + 3 * class) (omega arith));
+        next_is = subst (λ (w : ℕ). get_or new w 0 ≡ class_head class) (omega arith) (heads.heads class less);
+        prev_is = subst (λ (w : ℕ). get_or new w 0 ≡ 0) (omega arith) (heads.others (27 + 3 * class) (inr (inr (λ e. omega (arith, e)))) ∙ far (27 + 3 * class) (omega arith));
+      };
+      log_ctx = small 20 (omega arith);
+      data_is = small 23 (omega arith);
+      rest = λ w big. heads.others w (later w big) ∙ far w (omega (arith, big));
+    } where
+      missing : (bytes w : ℕ) → 13 ≤ w → found (header_entries bytes) w 0 ≡ 0
+      missing bytes w big = grind (arith, common_steps)
+
+      later : (w : ℕ) → 52 ≤ w → (w < 26) ⊎ (26 + 3 * 9 ≤ w) ⊎ (w % 3 ≢ 2)
+      later w big = elim (cases_eq w 52) [ inl e ↦ inr (inr (λ m. omega (arith, e, m))) | inr ne ↦ inr (inl (omega (arith, big, ne))) ]
+
+-- ---- the fresh slab
+
+pub pages-some : (bytes : ℕ) → least_zone ≤ bytes → 0 < pages_of bytes
+unfolding pages_of most_pages start_of
+pages-some bytes low = omega arith
+
+pub prepared-list : (bytes : ℕ) (words : List ℕ) → least_zone ≤ bytes → bytes ≤ greatest_zone → IsPrepared bytes words → LaysList (pages_of bytes) words []
+prepared-list bytes words low high h = let r = pages-room bytes low high in record {
+  small = r.0;
+  room = omega (arith, r.1, h.sized);
+  sound = tt;
+  slab_is = h.list.slab_is;
+  prev_is = h.list.prev_is;
+  linked = h.list.next_is;
+}
+
+pub prepared-clear : (bytes : ℕ) (words : List ℕ) → least_zone ≤ bytes → IsPrepared bytes words → IsCleared (pages_of bytes) words [] (record { first = 0; pages = pages_of bytes })
+prepared-clear bytes words low h = record {
+  some = pages-some bytes low;
+  within = omega arith;
+  apart = tt;
+  cleared = λ page above below. record {
+    slab_is = h.rest (descriptor page / 8) (omega (arith, descriptor-word page));
+    next_is = h.rest (descriptor page / 8 + 1) (omega (arith, descriptor-word page));
+    prev_is = h.rest (descriptor page / 8 + 2) (omega (arith, descriptor-word page));
+  };
+}
+
+pub opened-lays : (bytes : ℕ) (words listed new : List ℕ) → least_zone ≤ bytes → bytes ≤ greatest_zone → IsPrepared bytes words → Relists (pages_of bytes) (record { first = 0; pages = pages_of bytes } ∷ []) (record { first = 0; pages = pages_of bytes } ∷ []) words listed → new ≡ set listed pfree (pages_of bytes) → IsOpened bytes (record { bytes = bytes; words = new })
+opened-lays bytes words listed new low high h re is =
+    let run : Run = record { first = 0; pages = pages_of bytes } in
+    let runs : List Run = run ∷ [] in
+    let r = pages-room bytes low high in
+    let same = λ (w : ℕ) (list : is_list_word w ≡ false) (out : is_run_word runs w ≡ false). get-written listed new pfree (pages_of bytes) w is (not_pfree w list) ∙ re.kept.others w list out in
+    let low_word = λ (w : ℕ) (list : is_list_word w ≡ false) (less : w < 88). same w list (before runs w less) in
+    let sized : length listed ≡ bytes / 8 = re.kept.same_length ∙ h.sized in
+    let counted : get_or new pfree 0 ≡ page_total runs = get-read listed new pfree (pages_of bytes) is (omega (arith, sized, r.1)) ∙ omega arith in
+    record {
+      bytes_are = refl;
+      laid = record {
+        header = record {
+          lock = low_word 0 refl (omega arith) ∙ h.header.lock;
+          wait = low_word 1 refl (omega arith) ∙ h.header.wait;
+          min_size = low_word 2 refl (omega arith) ∙ h.header.min_size;
+          min_shift = low_word 3 refl (omega arith) ∙ h.header.min_shift;
+          pages = low_word 4 refl (omega arith) ∙ h.header.pages;
+          last = low_word 5 refl (omega arith) ∙ h.header.last;
+          stats = low_word 9 refl (omega arith) ∙ h.header.stats;
+          start = low_word 11 refl (omega arith) ∙ h.header.start;
+          end = low_word 12 refl (omega arith) ∙ h.header.end;
+          mutex = λ w above below. low_word w (large w (omega (arith, above))) (omega (arith, below)) ∙ h.header.mutex w above below;
+          zero = low_word 21 refl (omega arith) ∙ h.header.zero;
+          log_nomem = low_word 22 refl (omega arith) ∙ h.header.log_nomem;
+          addr = low_word 24 refl (omega arith) ∙ h.header.addr;
+        };
+        runs = list-runs bytes new runs (length-written listed new pfree (pages_of bytes) is ∙ sized) (counted_list (pages_of bytes) listed new runs (pages_of bytes) re.laid is) counted;
+        lists = λ class less.
+            let head = h.heads class less in
+            subst (λ (pages : List ℕ). LaysClass new class pages) (sym (get-zeros class_count class [])) (record {
+              slab_is = low_word (class_head class / 8) (large (class_head class / 8) (omega arith)) (omega (arith, less)) ∙ head.slab_is;
+              prev_is = low_word (class_head class / 8 + 2) (large (class_head class / 8 + 2) (omega arith)) (omega (arith, less)) ∙ head.prev_is;
+              linked = low_word (class_head class / 8 + 1) (large (class_head class / 8 + 1) (omega arith)) (omega (arith, less)) ∙ head.next_is;
+            });
+        stats = λ class less.
+            let zero_word = λ (w : ℕ) (above : 52 ≤ w) (below : w < 88). low_word w (large w (omega (arith, above))) below ∙ h.rest w above in
+            subst (λ (stat : _). LaysStat new class stat) (sym (get-zeros class_count class no_stat)) (record {
+              total = zero_word (stat_word class) (omega arith) (omega (arith, less));
+              used = zero_word (stat_word class + 1) (omega arith) (omega (arith, less));
+              reqs = zero_word (stat_word class + 2) (omega arith) (omega (arith, less));
+              fails = zero_word (stat_word class + 3) (omega arith) (omega (arith, less));
+            });
+        used_runs = λ page count e. absurd (free_first page count (sym (get-zeros (pages_of bytes) page Free) ∙ e));
+        classes = λ page class used e. absurd (free_class page class used (sym (get-zeros (pages_of bytes) page Free) ∙ e));
+      };
+      log_ctx = low_word 20 refl (omega arith) ∙ h.log_ctx;
+      data_is = low_word 23 refl (omega arith) ∙ h.data_is;
+      rest = λ w big. same w (large w (omega (arith, big))) (past bytes w big) ∙ h.rest w (omega (arith, big));
+    } where
+      not_pfree : (w : ℕ) → is_list_word w ≡ false → w ≢ pfree
+      not_pfree w list e = grind (arith, common_steps)
+
+      large : (w : ℕ) → 13 ≤ w → is_list_word w ≡ false
+      large w h = grind (arith, common_steps)
+
+      before : (runs : List Run) (w : ℕ) → w < 88 → is_run_word runs w ≡ false
+      before runs w less = grind (arith, common_steps)
+
+      past : (bytes w : ℕ) → 88 + 3 * pages_of bytes ≤ w → is_run_word (record { first = 0; pages = pages_of bytes } ∷ []) w ≡ false
+      past bytes w big = let far : pages_of bytes ≤ (w - 88) / 3 = omega (arith, big) in grind (arith, common_steps)
+
+      free_first : (page count : ℕ) → Free ≡ First count → ⊥
+      free_first page count e = cc
+
+      free_class : (page class : ℕ) (used : List ℕ) → Free ≡ Class class used → ⊥
+      free_class page class used e = cc
+
+-- ---- the entries, one after another
+
+pub below-at : (n : ℕ) (es : List (ℕ × ℕ)) (i : ℕ) → all_below n es ≡ true → i < length es → (get_or es i (0, 0)).0 < n
+below-at n [] i below h = absurd (omega arith)
+below-at n (e ∷ es) zero below h = grind (arith, common_steps)
+below-at n (e ∷ es) (suc i) below h = below-at n es i (rest n e es below) (omega (arith, h)) where
+  rest : (n : ℕ) (e : ℕ × ℕ) (es : List (ℕ × ℕ)) → all_below n (e ∷ es) ≡ true → all_below n es ≡ true
+  rest n e es h = grind (arith, common_steps)
+
+pub put-next : (es : List (ℕ × ℕ)) (words : List ℕ) (i : ℕ) → i < length es → put_all (take (suc i) es) words ≡ set (put_all (take i es) words) (get_or es i (0, 0)).0 (get_or es i (0, 0)).1
+put-next [] words i h = absurd (omega arith)
+put-next (e ∷ es) words zero h = refl
+put-next (e ∷ es) words (suc i) h = put-next es (set words e.0 e.1) i (omega (arith, h))
+
+-- the header's entries by what the code computes
+abbrev pub entries_of : ℕ → ℕ → ℕ → List (ℕ × ℕ)
+entries_of last start bytes = (2, 8) ∷ (3, 3) ∷ (4, 704) ∷ (5, last) ∷ (7, free_head) ∷ (9, 416) ∷ (11, start) ∷ (12, bytes) ∷ []
+
+descriptor-first : descriptor 0 ≡ 704
+unfolding descriptor
+descriptor-first = refl
+
+pub entries-equal : (last start bytes : ℕ) → last ≡ descriptor (pages_of bytes) → start ≡ start_of bytes → entries_of last start bytes ≡ header_entries bytes
+entries-equal last start bytes el es =
+    ap (λ a. entries_of a start bytes) el ∙ ap (λ b. entries_of (descriptor (pages_of bytes)) b bytes) es
+    ∙ ap (λ k. (2, 8) ∷ (3, 3) ∷ (4, k) ∷ (5, descriptor (pages_of bytes)) ∷ (7, free_head) ∷ (9, 416) ∷ (11, start_of bytes) ∷ (12, bytes) ∷ []) (sym descriptor-first)

@@ -1,0 +1,72 @@
+-- The list of free runs in the words of a zone of known bytes.
+use Rattle.std.proofs.Common.{ℕ, ◌≡◌, ◌≢◌, ◌⊎◌, ◌+◌, ◌*◌, ◌-◌, ◌/◌, ◌<◌, ◌≤◌, Bool, true, false, List, [], ◌∷◌, length, get_or, set, sym, ap, subst, ◌∙◌, refl, arith, inl, inr}
+use Rattle.std.proofs.lemmas.Grind.{common_steps}
+use Rattle.std.proofs.lemmas.Bool.{cases_eq}
+use Rattle.slab_model.specs.declared.runs.Run.{Run}
+use Rattle.slab_model.specs.Geometry.{pages_of, most_pages, start_of, least_zone, greatest_zone}
+use Rattle.slab_model.specs.Runs.{AreSound, is_covered, page_total, take_run, give_run}
+use Rattle.slab_model.proofs.RunLemmas.{page_total-give}
+use Rattle.slab_pages.specs.Places.{Image, free_head, pfree, descriptor, slab_at, next_at, prev_at, is_list_word, is_run_word}
+use Rattle.slab_pages.specs.Layout.{LaysFrom, LaysRuns, IsUsed}
+use Rattle.slab_pages.specs.Steps.{SameWords, LaysList, TakesRun, GivesRun}
+use Rattle.slab_pages.proofs.PlaceLemmas.{descriptor-word, descriptor-head, descriptor-injective}
+use Rattle.slab_pages.proofs.WriteLemmas.{get-written, length-written}
+use Rattle.slab_pages.proofs.UnlinkLemmas.{LaysList-kept, beyond_run}
+
+-- the descriptors lie in the zone
+pub pages-room : (bytes : ℕ) → least_zone ≤ bytes → bytes ≤ greatest_zone → (pages_of bytes ≤ 16384) × (88 + 3 * pages_of bytes ≤ bytes / 8)
+unfolding pages_of most_pages start_of
+pages-room bytes low high = (omega arith, omega arith)
+
+pub runs-list : (image : Image) (runs : List Run) → least_zone ≤ image.bytes → image.bytes ≤ greatest_zone → LaysRuns image runs → LaysList (pages_of image.bytes) image.words runs
+runs-list image runs low high h = let r = pages-room image.bytes low high in record {
+  small = r.0;
+  room = omega (arith, r.1, h.sized);
+  sound = h.sound;
+  slab_is = h.slab_is;
+  prev_is = h.prev_is;
+  linked = h.linked;
+}
+
+pub list-runs : (bytes : ℕ) (words : List ℕ) (runs : List Run) → length words ≡ bytes / 8 → LaysList (pages_of bytes) words runs → get_or words pfree 0 ≡ page_total runs → LaysRuns (record { bytes = bytes; words = words }) runs
+list-runs bytes words runs sized h counted = record { sized = sized; sound = h.sound; slab_is = h.slab_is; prev_is = h.prev_is; linked = h.linked; counted = counted }
+
+-- the words tell the list
+from-unique : (words : List ℕ) (o : ℕ) (xs ys : List Run) → LaysFrom words o xs → LaysFrom words o ys → xs ≡ ys
+from-unique words o [] [] h k = refl
+from-unique words o [] (y ∷ ys) h k = absurd (descriptor-head y.first (sym k.0 ∙ h))
+from-unique words o (x ∷ xs) [] h k = absurd (descriptor-head x.first (sym h.0 ∙ k))
+from-unique words o (x ∷ xs) (y ∷ ys) h k =
+    let first : x.first ≡ y.first = descriptor-injective x.first y.first (sym h.0 ∙ k.0) in
+    let pages : x.pages ≡ y.pages = sym h.1 ∙ ap (λ n. slab_at words (descriptor n)) first ∙ k.1 in
+    let rest = from-unique words (descriptor x.first) xs ys h.4 (subst (λ (n : ℕ). LaysFrom words (descriptor n) ys) (sym first) k.4) in
+    ap (λ (zs : List Run). x ∷ zs) rest ∙ ap (λ (z : Run). z ∷ ys) (same x y first pages) where
+      same : (x y : Run) → x.first ≡ y.first → x.pages ≡ y.pages → x ≡ y
+      same x y first pages = grind (arith, common_steps)
+
+pub runs-unique : (image : Image) (xs ys : List Run) → LaysRuns image xs → LaysRuns image ys → xs ≡ ys
+runs-unique image xs ys h k = from-unique image.words free_head xs ys h.linked k.linked
+
+-- a word that the free runs aren't kept in
+pub set_other : (bytes : ℕ) (words new : List ℕ) (runs : List Run) (w v : ℕ) → least_zone ≤ bytes → bytes ≤ greatest_zone → LaysRuns (record { bytes = bytes; words = words }) runs → is_list_word w ≡ false → is_run_word runs w ≡ false → new ≡ set words w v → LaysRuns (record { bytes = bytes; words = new }) runs
+set_other bytes words new runs w v low high h list run is =
+    let image : Image = record { bytes = bytes; words = words } in
+    let not = others w list in
+    list-runs bytes new runs (length-written words new w v is ∙ h.sized)
+    (LaysList-kept (pages_of bytes) words new runs (length-written words new w v is)
+    (record { slab = get-written words new w v 6 is (λ e. not.0 (sym e)); next = get-written words new w v 7 is (λ e. not.1 (sym e)); prev = get-written words new w v 8 is (λ e. not.2 (sym e)) })
+    (λ page c. let far = beyond_run runs page w c run in record {
+      slab = get-written words new w v (descriptor page / 8) is (λ e. elim far [ inl l ↦ omega (arith, l, e) | inr g ↦ omega (arith, g, e) ]);
+      next = get-written words new w v (descriptor page / 8 + 1) is (λ e. elim far [ inl l ↦ omega (arith, l, e) | inr g ↦ omega (arith, g, e) ]);
+      prev = get-written words new w v (descriptor page / 8 + 2) is (λ e. elim far [ inl l ↦ omega (arith, l, e) | inr g ↦ omega (arith, g, e) ]);
+    })
+    (runs-list image runs low high h))
+    (get-written words new w v pfree is (λ e. not.3 (sym e)) ∙ h.counted) where
+      others : (w : ℕ) → is_list_word w ≡ false → (w ≢ 6) × (w ≢ 7) × (w ≢ 8) × (w ≢ 10)
+      others w list = (λ e. grind (arith, common_steps), λ e. grind (arith, common_steps), λ e. grind (arith, common_steps), λ e. grind (arith, common_steps))
+
+pub taken-runs : (bytes : ℕ) (words new : List ℕ) (runs : List Run) (first n : ℕ) → LaysRuns (record { bytes = bytes; words = words }) runs → TakesRun (pages_of bytes) runs words new first n → page_total (take_run n runs) + n ≡ page_total runs → LaysRuns (record { bytes = bytes; words = new }) (take_run n runs)
+taken-runs bytes words new runs first n h takes total = list-runs bytes new (take_run n runs) (takes.kept.same_length ∙ h.sized) takes.laid (omega (arith, takes.counted, h.counted, total))
+
+pub given-runs : (bytes : ℕ) (words new : List ℕ) (runs : List Run) (run : Run) → LaysRuns (record { bytes = bytes; words = words }) runs → GivesRun (pages_of bytes) runs words new run → LaysRuns (record { bytes = bytes; words = new }) (give_run run runs)
+given-runs bytes words new runs run h gives = list-runs bytes new (give_run run runs) (gives.kept.same_length ∙ h.sized) gives.laid (omega (arith, gives.counted, h.counted, page_total-give (pages_of bytes) run runs h.sound))

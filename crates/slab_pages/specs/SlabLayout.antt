@@ -1,0 +1,86 @@
+-- How a whole slab is laid out in the words of a zone.
+use Rattle.std.specs.Prelude.{ℕ, ◌≡◌, ◌⊎◌, ◌+◌, ◌*◌, ◌-◌, ◌/◌, ◌%◌, ◌^◌, ◌<◌, ◌≤◌, ◌↔◌, true, List, [], ◌∷◌, slice_index, IsBitSet}
+use Rattle.slab_model.specs.declared.stat.Stat.{Stat}
+use Rattle.slab_model.specs.declared.page.PageState.TheVariants.{First, Class}
+use Rattle.slab_model.specs.Geometry.{pages_of, start_of, page_offset, class_count, blocks_in_page, first_index, kind_of, Kind, small, exact, big}
+use Rattle.slab_model.specs.Numbers.{is_member}
+use Rattle.slab_model.specs.Slab.{Slab, page_at, list_of, stat_of, is_full, opened}
+use Rattle.slab_pages.specs.Places.{Image, descriptor, slab_at, next_at, prev_at}
+use Rattle.slab_pages.specs.Layout.{LaysRuns, HasUsedRun}
+
+-- byte offset of the head of a class's list, which is laid out like a descriptor
+abbrev pub class_head : ℕ → ℕ
+class_head class = 200 + 24 * class
+
+-- the first of the four words of a class's statistics
+abbrev pub stat_word : ℕ → ℕ
+stat_word class = 52 + 4 * class
+
+-- the pool header, but for the words of the page list, `log_ctx` and `data`
+pub record LaysHeader (bytes : ℕ) (words : List ℕ) : Type 0 where
+  pub lock : slice_index words 0 ≡ 0
+  pub wait : slice_index words 1 ≡ 0
+  pub min_size : slice_index words 2 ≡ 8
+  pub min_shift : slice_index words 3 ≡ 3
+  pub pages : slice_index words 4 ≡ descriptor 0
+  pub last : slice_index words 5 ≡ descriptor (pages_of bytes)
+  pub stats : slice_index words 9 ≡ 416
+  pub start : slice_index words 11 ≡ start_of bytes
+  pub end : slice_index words 12 ≡ bytes
+  pub mutex : (w : ℕ) → 13 ≤ w → w < 20 → slice_index words w ≡ 0
+  pub zero : slice_index words 21 ≡ 0
+  pub log_nomem : slice_index words 22 ≡ 0
+  pub addr : slice_index words 24 ≡ 0
+
+-- the statistics of a class
+pub record LaysStat (words : List ℕ) (class : ℕ) (stat : Stat) : Type 0 where
+  pub total : slice_index words (stat_word class) ≡ stat.total
+  pub used : slice_index words (stat_word class + 1) ≡ stat.used
+  pub reqs : slice_index words (stat_word class + 2) ≡ stat.reqs
+  pub fails : slice_index words (stat_word class + 3) ≡ stat.fails
+
+-- the type of a class's pages, in the low two bits of their prev word
+abbrev pub type_of : Kind → ℕ
+type_of small = 3
+type_of exact = 2
+type_of big = 1
+
+-- from the descriptor at `o` on, these pages of the class are linked, and back at the class's head the list ends
+abbrev pub LaysPages : List ℕ → ℕ → ℕ → List ℕ → Type 0
+LaysPages words class o [] = next_at words o ≡ class_head class
+LaysPages words class o (page ∷ pages) = (next_at words o ≡ descriptor page) × (prev_at words (descriptor page) ≡ o + type_of (kind_of class)) × LaysPages words class (descriptor page) pages
+
+-- a class's list of pages that can grant a block
+pub record LaysClass (words : List ℕ) (class : ℕ) (pages : List ℕ) : Type 0 where
+  pub slab_is : slab_at words (class_head class) ≡ 0
+  pub prev_is : prev_at words (class_head class) ≡ 0
+  pub linked : LaysPages words class (class_head class) pages
+
+-- the bits of a page's blocks: in its first words with those of its own blocks, in its slab word, or in the upper half of it
+abbrev pub LaysBits : Kind → List ℕ → ℕ → ℕ → ℕ → List ℕ → Type 0
+LaysBits small words bytes page class used = (slab_at words (descriptor page) ≡ 3 + class) × ((index : ℕ) → index < blocks_in_page class → IsBitSet (slice_index words (page_offset bytes page / 8 + index / 64)) (index % 64) ↔ ((index < first_index class) ⊎ (is_member index used ≡ true)))
+LaysBits exact words bytes page class used = (index : ℕ) → index < 64 → IsBitSet (slab_at words (descriptor page)) index ↔ (is_member index used ≡ true)
+LaysBits big words bytes page class used = (slab_at words (descriptor page) % 2 ^ 32 ≡ 3 + class) × ((index : ℕ) → index < 32 → IsBitSet (slab_at words (descriptor page) / 2 ^ 32) index ↔ (is_member index used ≡ true))
+
+-- a page of a class: its bits, and where it is full the links of a page in no list
+pub record LaysClassPage (words : List ℕ) (bytes page class : ℕ) (used : List ℕ) : Type 0 where
+  pub bits : LaysBits (kind_of class) words bytes page class used
+  pub next_if_full : is_full class used ≡ true → next_at words (descriptor page) ≡ 0
+  pub prev_if_full : is_full class used ≡ true → prev_at words (descriptor page) ≡ type_of (kind_of class)
+
+-- the words lay out this slab
+pub record LaysSlab (words : List ℕ) (slab : Slab) : Type 0 where
+  pub header : LaysHeader slab.bytes words
+  pub runs : LaysRuns (record { bytes = slab.bytes; words = words }) slab.runs
+  pub lists : (class : ℕ) → class < class_count → LaysClass words class (list_of slab class)
+  pub stats : (class : ℕ) → class < class_count → LaysStat words class (stat_of slab class)
+  pub used_runs : (page count : ℕ) → page_at slab.pages page ≡ First count → HasUsedRun words page count
+  pub classes : (page class : ℕ) (used : List ℕ) → page_at slab.pages page ≡ Class class used → LaysClassPage words slab.bytes page class used
+
+-- a fresh zone: its words lay out a fresh slab, and every word that the layout doesn't give is 0
+pub record IsOpened (bytes : ℕ) (image : Image) : Type 0 where
+  pub bytes_are : image.bytes ≡ bytes
+  pub laid : LaysSlab image.words (opened bytes)
+  pub log_ctx : slice_index image.words 20 ≡ 0
+  pub data_is : slice_index image.words 23 ≡ 0
+  pub rest : (w : ℕ) → 88 + 3 * pages_of bytes ≤ w → slice_index image.words w ≡ 0

@@ -1,0 +1,133 @@
+ghost use Rattle.std.specs.Prelude.{◌≡◌, ◌+◌, ◌<◌, ◌/◌, length, false, List, Some, None, MatchOption, IfSome, IfNone, IfOk, slice_index, slice_set};
+ghost use Rattle.slab_model.specs.declared.runs.Run.{Run};
+ghost use Rattle.slab_model.specs.Geometry.{pages_of};
+ghost use Rattle.slab_model.specs.Runs.{first_fit, give_run, page_total, take_run};
+ghost use Rattle.slab_pages.specs.Places.{Image, KeepsOthers, is_list_word, is_run_word};
+ghost use Rattle.slab_pages.specs.Layout.{HasUsedRun, IsUsed, LaysRuns};
+ghost use Rattle.slab_pages.specs.SlabLayout.{IsOpened};
+
+use crate::geometry::Geometry;
+use crate::opening::prepare;
+use crate::runs::{PFREE, add_run, find_fit, give_pages, take_pages};
+use std::alloc::Global;
+use std::marker::Model;
+use zone_outside::NoMemory;
+use zone_region::Region;
+
+/// A page of a zone, by its number from 0.
+#[derive(Clone, Copy, Debug, PartialEq, Eq)]
+pub struct Page {
+    pub number: u64,
+}
+
+/// The words of a zone, with its free pages kept in runs, after `ngx_slab_alloc_pages` and
+/// `ngx_slab_free_pages`.
+///
+/// Contracts see the zone's bytes and words. The words always lay out one sound list of free runs (`LaysRuns`),
+/// which each call reads and changes as a list.
+#[derive(Drop)]
+pub struct Pages {
+    region: Region,
+    geometry: Geometry,
+}
+
+impl Model for Pages {
+    ghost use Rattle.std.specs.Prelude.{List};
+    ghost use Rattle.slab_model.specs.declared.runs.Run.{Run};
+    ghost use Rattle.slab_pages.specs.Places.{Image};
+    ghost use Rattle.slab_pages.specs.Layout.{LaysRuns};
+
+    ghost Value = { Image };
+
+    ghost view = { λ p. record { bytes = p.geometry.bytes; words = p.region } };
+
+    ghost invariant = { λ p. ((runs : List Run) × LaysRuns (record { bytes = p.geometry.bytes; words = p.region }) runs) };
+}
+
+impl Pages {
+    /// A fresh zone: all pages are free, in one run, and the header is written.
+    pub fn open(alloc: Global, g: Geometry) -> Result<Pages, NoMemory>
+        ensures { IfOk result (λ pages. IsOpened g.bytes pages) }
+    {
+        let mut region = Region::zeroed(alloc, g.bytes / 8)?;
+        prepare(&mut region, &g);
+        add_run(&mut region, 0, g.pages);
+        region.store(PFREE, g.pages);
+        Ok(Pages {
+            region,
+            geometry: g,
+        })
+    }
+
+    /// How the zone is cut.
+    pub fn geometry(&self) -> Geometry
+        ensures { result.bytes ≡ self.now.bytes }
+    {
+        self.geometry
+    }
+
+    /// The number of free pages.
+    pub fn free_count(&self) -> u64
+        ensures { (runs : List Run) → LaysRuns self.now runs → result ≡ page_total runs }
+    {
+        self.region.load(PFREE)
+    }
+
+    /// Word `w` of the zone.
+    pub fn word(&self, w: u64) -> u64
+        requires { w < length self.now.words }
+        ensures { result ≡ slice_index self.now.words w }
+    {
+        self.region.load(w)
+    }
+
+    /// Makes word `w` be `v`, and leaves every other word. It may not be one that the free runs are kept in.
+    pub fn set_word(&mut self, w: u64, v: u64)
+        requires within { w < length self.old.words }
+        requires not_listed { is_list_word w ≡ false }
+        requires not_free { ((runs : List Run) × LaysRuns self.old runs × (is_run_word runs w ≡ false)) }
+        ensures set { self.new ≡ record { bytes = self.old.bytes; words = slice_set self.old.words w v } }
+        ensures laid { (runs : List Run) → LaysRuns self.old runs → LaysRuns self.new runs }
+    {
+        self.region.store(w, v);
+    }
+
+    /// Takes `n` pages, at least 1, from the front of the first run in list order that has as many.
+    /// What is left of the run stands in its place. None where no free run has `n` pages.
+    ///
+    /// It takes time linear in the number of free runs and of pages taken.
+    pub fn take(&mut self, n: u64) -> Option<Page>
+        requires { 0 < n }
+        ensures page { (runs : List Run) → LaysRuns self.old runs →
+            MatchOption result (first_fit n runs ≡ None) (λ p. first_fit n runs ≡ Some p.number) }
+        ensures laid { (runs : List Run) → LaysRuns self.old runs → LaysRuns self.new (take_run n runs) }
+        ensures used { IfSome result (λ p. HasUsedRun self.new.words p.number n) }
+        ensures kept { (runs : List Run) → LaysRuns self.old runs → KeepsOthers runs self.old.words self.new.words }
+        ensures bytes { self.new.bytes ≡ self.old.bytes }
+        ensures none { IfNone result (self.new ≡ self.old) }
+    {
+        match find_fit(&self.region, n) {
+            None => None,
+            Some(first) => {
+                take_pages(&mut self.region, first, n);
+                Some(Page { number: first })
+            }
+        }
+    }
+
+    /// Gives back the used run of `n` pages from `p` on. It is merged with the free run right after it and with
+    /// the one right before it, and goes to the head of the list.
+    ///
+    /// It reads the descriptors next to the run and doesn't walk the list, so its time doesn't grow with it.
+    pub fn put(&mut self, p: Page, n: u64)
+        requires { let run : Run = record { first = p.number; pages = n } in
+            ((runs : List Run) × LaysRuns self.old runs × IsUsed (pages_of self.old.bytes) self.old.words runs run) }
+        ensures laid { let run : Run = record { first = p.number; pages = n } in
+            (runs : List Run) → LaysRuns self.old runs → LaysRuns self.new (give_run run runs) }
+        ensures kept { let run : Run = record { first = p.number; pages = n } in
+            (runs : List Run) → LaysRuns self.old runs → KeepsOthers (give_run run runs) self.old.words self.new.words }
+        ensures bytes { self.new.bytes ≡ self.old.bytes }
+    {
+        give_pages(&mut self.region, self.geometry.pages, p.number, n);
+    }
+}
