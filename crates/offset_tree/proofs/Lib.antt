@@ -19,3 +19,4 @@ pub mod UnlinkLemmas
 pub mod SubstituteLemmas
 pub mod RemoveLemmas
 pub mod RemovedLemmas
+pub mod Keeping
