@@ -1,9 +1,9 @@
 -- The hash and the key in a node's words, and their order.
 use Rattle.std.specs.Prelude.{ℕ, ◌≡◌, ◌⊎◌, ◌+◌, ◌*◌, ◌/◌, ◌%◌, ◌^◌, ◌≤◌, zero, suc, List, [], ◌∷◌, length}
 use Rattle.std.specs.Ordering.{nat_cmp, ordering_then}
-use Rattle.std.specs.Cmp.Lexicographic.{slice_cmp}
 use Rattle.std.specs.declared.cmp.Ordering.{Ordering}
 use Rattle.std.specs.declared.cmp.Ordering.TheVariants.{Less}
+use Rattle.zone_key.specs.Order.{key_order}
 use Rattle.zone_region.specs.Words.{Words, word_at}
 use Rattle.offset_tree.specs.declared.tree.Form.{Form}
 
@@ -28,7 +28,7 @@ abbrev pub Rank : Type 0
 Rank = ℕ × List ℕ
 
 abbrev pub rank_cmp : Rank → Rank → Ordering
-rank_cmp a b = ordering_then (nat_cmp a.0 b.0) (slice_cmp nat_cmp a.1 b.1)
+rank_cmp a b = ordering_then (nat_cmp a.0 b.0) (key_order a.1 b.1)
 
 abbrev pub rank_of : Words → Form → ℕ → Rank
 rank_of m f x = (word_at m x 0, key_of m f x)
