@@ -1,5 +1,5 @@
-ghost use Rattle.std.specs.Prelude.{◌≡◌, ◌≢◌, ℕ, ◌+◌, ◌*◌, ◌^◌, ◌<◌, ◌≤◌, List, ◌∷◌, ◌++◌, length};
-ghost use Rattle.zone_region.specs.Words.{Words, word_at, SetsWord};
+ghost use Rattle.std.specs.Prelude.{◌≡◌, ◌≢◌, ◌+◌, ◌*◌, ◌^◌, ◌≤◌};
+ghost use Rattle.zone_region.specs.Words.{SetsWord};
 ghost use Rattle.offset_queue.specs.Queue.{head_link, block_of, index_of, prev_of, next_of, IsPlace};
 
 use crate::queue::Queue;
@@ -41,7 +41,8 @@ pub(crate) fn next<B: Blocks>(blocks: &B, q: &Queue, link: u64, a: u64) -> u64
 /// Sets the previous link at byte offset `a`.
 pub(crate) fn set_prev<B: Blocks>(blocks: &mut B, q: &Queue, link: u64, a: u64, v: u64)
     requires { IsPlace (B.words blocks.old) q.now link a }
-    ensures { SetsWord (B.words blocks.old) (B.words blocks.new) (block_of q.now link a) (index_of q.now link a) v }
+    ensures { SetsWord (B.words blocks.old) (B.words blocks.new) (block_of q.now link a)
+        (index_of q.now link a) v }
 {
     let (b, i) = place_of(q, link, a);
     blocks.set(b, i, v);
@@ -50,7 +51,8 @@ pub(crate) fn set_prev<B: Blocks>(blocks: &mut B, q: &Queue, link: u64, a: u64, 
 /// Sets the next link at byte offset `a`.
 pub(crate) fn set_next<B: Blocks>(blocks: &mut B, q: &Queue, link: u64, a: u64, v: u64)
     requires { IsPlace (B.words blocks.old) q.now link a }
-    ensures { SetsWord (B.words blocks.old) (B.words blocks.new) (block_of q.now link a) (index_of q.now link a + 1) v }
+    ensures { SetsWord (B.words blocks.old) (B.words blocks.new) (block_of q.now link a)
+        (index_of q.now link a + 1) v }
 {
     let (b, i) = place_of(q, link, a);
     blocks.set(b, i + 1, v);

@@ -1,8 +1,6 @@
-ghost use Rattle.std.specs.Prelude.{◌≡◌, ◌≢◌, ℕ, ◌+◌, ◌-◌, ◌*◌, ◌/◌, ◌%◌, ◌^◌, ◌<◌, ◌≤◌, suc, Bool, true, false, List, ◌∷◌, ◌++◌, length};
-ghost use Rattle.zone_region.specs.Words.{Words, word_at, SetsWord};
+ghost use Rattle.std.specs.Prelude.{◌≡◌, ◌≢◌, ◌+◌, ◌^◌, ◌≤◌, true, length};
 ghost use Rattle.offset_tree.specs.Shape.{Path, plug, node, leaf};
 ghost use Rattle.offset_tree.specs.Links.{IsShape};
-ghost use Rattle.offset_tree.specs.Sides.{index_of};
 ghost use Rattle.offset_tree.specs.Moves.{ChangesTree};
 ghost use Rattle.offset_tree.specs.Attaching.{Gap, Cleared, Linked};
 
@@ -51,8 +49,11 @@ pub(crate) fn attach<B: Blocks, L: Ledger>(
 )
     requires ends { t.now.context.at + 64 ≤ 2 ^ 63 }
     requires there { ((k : Path) × Gap (B.words blocks.old) t.now.context.at p side k b) }
-    ensures shape { (k : Path) → Gap (B.words blocks.old) t.now.context.at p side k b → IsShape (B.words blocks.new) t.now.context.at (plug k (node true leaf b leaf)) }
-    ensures changes { (k : Path) → Gap (B.words blocks.old) t.now.context.at p side k b → ChangesTree (B.words blocks.old) (B.words blocks.new) t.now.context.at (plug k (node true leaf b leaf)) }
+    ensures shape { (k : Path) → Gap (B.words blocks.old) t.now.context.at p side k b →
+        IsShape (B.words blocks.new) t.now.context.at (plug k (node true leaf b leaf)) }
+    ensures changes { (k : Path) → Gap (B.words blocks.old) t.now.context.at p side k b →
+        ChangesTree (B.words blocks.old) (B.words blocks.new) t.now.context.at (plug k
+        (node true leaf b leaf)) }
     ensures cost { steps.new ≡ steps.old + 1 }
 {
     clear(blocks, t, b, p, steps);

@@ -25,8 +25,12 @@ pub fn find<B: Blocks, L: Ledger>(
 ) -> Option<Block>
     requires form { IsForm t.now.form }
     requires there { ((xs : List ℕ) × IsTree (B.words blocks.now) t.now xs) }
-    ensures found { (xs : List ℕ) → IsTree (B.words blocks.now) t.now xs → MatchOption result ((x : ℕ) → In x xs → rank_of (B.words blocks.now) t.now.form x ≢ (hash, key.now)) (λ b. In b.at xs × (rank_of (B.words blocks.now) t.now.form b.at ≡ (hash, key.now))) }
-    ensures cost { (xs : List ℕ) → IsTree (B.words blocks.now) t.now xs → steps.new ≤ steps.old + search_cost (length xs) (length key.now) }
+    ensures found { (xs : List ℕ) → IsTree (B.words blocks.now) t.now xs →
+        MatchOption result
+        ((x : ℕ) → In x xs → rank_of (B.words blocks.now) t.now.form x ≢ (hash, key.now))
+        (λ b. In b.at xs × (rank_of (B.words blocks.now) t.now.form b.at ≡ (hash, key.now))) }
+    ensures cost { (xs : List ℕ) → IsTree (B.words blocks.now) t.now xs →
+        steps.new ≤ steps.old + search_cost (length xs) (length key.now) }
 {
     let nil = sentinel(t);
     let mut at = blocks.word(t.context, 0, steps);

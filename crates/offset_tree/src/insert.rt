@@ -1,4 +1,4 @@
-ghost use Rattle.std.specs.Prelude.{◌≡◌, ◌≢◌, ℕ, ◌+◌, ◌*◌, ◌≤◌, List, length};
+ghost use Rattle.std.specs.Prelude.{◌≢◌, ℕ, ◌+◌, ◌*◌, ◌≤◌, List, length};
 ghost use Rattle.offset_tree.specs.Members.{In};
 ghost use Rattle.offset_tree.specs.Keys.{IsForm, rank_of};
 ghost use Rattle.offset_tree.specs.Layout.{CanInsert, Inserted};
@@ -28,9 +28,12 @@ fn gap_for<B: Blocks, L: Ledger>(
     steps: &mut Steps<L>,
 ) -> Place
     requires form { IsForm t.now.form }
-    requires there { ((xs : List ℕ) × IsDrawn (B.words blocks.now) t.now xs × ((x : ℕ) → In x xs → rank_of (B.words blocks.now) t.now.form x ≢ (hash, key.now))) }
-    ensures opening { (xs : List ℕ) → IsDrawn (B.words blocks.now) t.now xs → Opening (B.words blocks.now) t.now (hash, key.now) xs result.parent result.side }
-    ensures cost { (xs : List ℕ) → IsDrawn (B.words blocks.now) t.now xs → steps.new ≤ steps.old + search_cost (length xs) (length key.now) }
+    requires there { ((xs : List ℕ) × IsDrawn (B.words blocks.now) t.now xs × ((x : ℕ) → In x xs →
+        rank_of (B.words blocks.now) t.now.form x ≢ (hash, key.now))) }
+    ensures opening { (xs : List ℕ) → IsDrawn (B.words blocks.now) t.now xs →
+        Opening (B.words blocks.now) t.now (hash, key.now) xs result.parent result.side }
+    ensures cost { (xs : List ℕ) → IsDrawn (B.words blocks.now) t.now xs →
+        steps.new ≤ steps.old + search_cost (length xs) (length key.now) }
 {
     let nil = sentinel(t);
     let mut at = blocks.word(t.context, 0, steps);
@@ -67,8 +70,10 @@ pub fn insert<B: Blocks, L: Ledger>(
 )
     requires form { IsForm t.now.form }
     requires there { ((xs : List ℕ) × CanInsert (B.words blocks.old) t.now b.at key.now xs) }
-    ensures inserted { (xs : List ℕ) → CanInsert (B.words blocks.old) t.now b.at key.now xs → Inserted (B.words blocks.old) (B.words blocks.new) t.now b.at xs }
-    ensures cost { (xs : List ℕ) → CanInsert (B.words blocks.old) t.now b.at key.now xs → steps.new ≤ steps.old + (3 * search_cost (length xs) (length key.now) + 24) }
+    ensures inserted { (xs : List ℕ) → CanInsert (B.words blocks.old) t.now b.at key.now xs →
+        Inserted (B.words blocks.old) (B.words blocks.new) t.now b.at xs }
+    ensures cost { (xs : List ℕ) → CanInsert (B.words blocks.old) t.now b.at key.now xs →
+        steps.new ≤ steps.old + (3 * search_cost (length xs) (length key.now) + 24) }
 {
     let hash = blocks.word(b, 0, steps);
     let place = gap_for(blocks, t, hash, key, steps);

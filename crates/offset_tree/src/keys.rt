@@ -1,6 +1,6 @@
-ghost use Rattle.std.specs.Prelude.{◌≡◌, ◌≢◌, ℕ, ◌+◌, ◌-◌, ◌*◌, ◌/◌, ◌%◌, ◌^◌, ◌<◌, ◌≤◌, List, ◌∷◌, ◌++◌, length, Bool, false};
-ghost use Rattle.zone_region.specs.Words.{Words, word_at};
-ghost use Rattle.offset_tree.specs.Keys.{IsForm, HoldsKey, key_len, rank_cmp, rank_of};
+ghost use Rattle.std.specs.Prelude.{◌≡◌, ◌≢◌, ◌+◌, ◌-◌, ◌*◌, ◌/◌, ◌%◌, ◌^◌, ◌<◌, ◌≤◌, length, false};
+ghost use Rattle.zone_region.specs.Words.{word_at};
+ghost use Rattle.offset_tree.specs.Keys.{IsForm, HoldsKey, rank_cmp, rank_of};
 
 use crate::tree::Form;
 use std::cmp::Ordering;

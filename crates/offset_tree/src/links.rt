@@ -1,5 +1,5 @@
-ghost use Rattle.std.specs.Prelude.{◌≡◌, ◌≢◌, ℕ, ◌+◌, ◌-◌, ◌*◌, ◌/◌, ◌%◌, ◌^◌, ◌<◌, ◌≤◌, ◌↔◌, IsTrue, List, ◌∷◌, ◌++◌, length};
-ghost use Rattle.zone_region.specs.Words.{Words, word_at, SetsWord};
+ghost use Rattle.std.specs.Prelude.{◌≡◌, ◌≢◌, ◌+◌, ◌^◌, ◌≤◌, length};
+ghost use Rattle.zone_region.specs.Words.{word_at, SetsWord};
 ghost use Rattle.offset_tree.specs.Sides.{index_of, other_of};
 ghost use Rattle.offset_tree.specs.Links.{SetsTwo, SetsParent, Replaces, red_at, side_at, with_colour};
 
@@ -143,7 +143,8 @@ pub(crate) fn side_of<B: Blocks, L: Ledger>(
 /// Gives a node a colour. The other bytes of that word stay.
 pub(crate) fn paint<B: Blocks, L: Ledger>(blocks: &mut B, x: u64, red: bool, steps: &mut Steps<L>)
     requires { 5 ≤ length (B.words blocks.old x) }
-    ensures paints { SetsWord (B.words blocks.old) (B.words blocks.new) x 4 (with_colour (word_at (B.words blocks.old) x 4) red) }
+    ensures paints { SetsWord (B.words blocks.old) (B.words blocks.new) x 4 (with_colour (word_at
+        (B.words blocks.old) x 4) red) }
     ensures cost { steps.new ≡ steps.old + 1 }
 {
     let word = blocks.word(Block { at: x }, COLOUR, steps);

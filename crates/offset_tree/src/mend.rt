@@ -1,7 +1,5 @@
-ghost use Rattle.std.specs.Prelude.{◌≡◌, ◌≢◌, ℕ, ◌+◌, ◌-◌, ◌*◌, ◌/◌, ◌%◌, ◌^◌, ◌<◌, ◌≤◌, suc, Bool, true, false, List, ◌∷◌, ◌++◌, length, MatchOption};
-ghost use Rattle.zone_region.specs.Words.{Words, word_at};
-ghost use Rattle.offset_tree.specs.Links.{Lies, IsShape, red_at, side_at};
-ghost use Rattle.offset_tree.specs.Sides.{index_of, other_of};
+ghost use Rattle.std.specs.Prelude.{◌≡◌, ◌≢◌, ℕ, ◌+◌, ◌^◌, ◌≤◌, suc, true, false, List, MatchOption};
+ghost use Rattle.offset_tree.specs.Links.{Lies};
 ghost use Rattle.offset_tree.specs.Changes.{ChangesNodes};
 ghost use Rattle.offset_tree.specs.Balance.{red_of, Settled};
 ghost use Rattle.offset_tree.specs.Mending.{Lacking, RedSibling, BlackSibling};
@@ -25,8 +23,11 @@ fn calm<B: Blocks, L: Ledger>(
 )
     requires ends { t.now.context.at + 64 ≤ 2 ^ 63 }
     requires there { ((xs : List ℕ) × RedSibling (B.words blocks.old) t.now.context.at p w side xs) }
-    ensures black { (xs : List ℕ) (d : ℕ) → RedSibling (B.words blocks.old) t.now.context.at p w side xs → (v : ℕ) × BlackSibling (B.words blocks.new) t.now.context.at p v side xs d }
-    ensures changes { (xs : List ℕ) → RedSibling (B.words blocks.old) t.now.context.at p w side xs → ChangesNodes (B.words blocks.old) (B.words blocks.new) t.now.context.at xs }
+    ensures black { (xs : List ℕ) (d : ℕ) →
+        RedSibling (B.words blocks.old) t.now.context.at p w side xs → (v : ℕ) ×
+        BlackSibling (B.words blocks.new) t.now.context.at p v side xs d }
+    ensures changes { (xs : List ℕ) → RedSibling (B.words blocks.old) t.now.context.at p w side xs →
+        ChangesNodes (B.words blocks.old) (B.words blocks.new) t.now.context.at xs }
 {
     recolour(blocks, t, w, false, steps);
     recolour(blocks, t, p, true, steps);
@@ -44,9 +45,17 @@ fn finish<B: Blocks, L: Ledger>(
     steps: &mut Steps<L>,
 )
     requires ends { t.now.context.at + 64 ≤ 2 ^ 63 }
-    requires there { ((xs : List ℕ) × (d : ℕ) × (r : BlackSibling (B.words blocks.old) t.now.context.at p w side xs d) × (red_of r.outer ≡ true) × Lies (B.words blocks.old) (t.now.context.at + 24) r.outer v w) }
-    ensures settled { (xs : List ℕ) (d : ℕ) (r : BlackSibling (B.words blocks.old) t.now.context.at p w side xs d) → red_of r.outer ≡ true → Lies (B.words blocks.old) (t.now.context.at + 24) r.outer v w → Settled (B.words blocks.new) t.now.context.at xs }
-    ensures changes { (xs : List ℕ) (d : ℕ) (r : BlackSibling (B.words blocks.old) t.now.context.at p w side xs d) → red_of r.outer ≡ true → Lies (B.words blocks.old) (t.now.context.at + 24) r.outer v w → ChangesNodes (B.words blocks.old) (B.words blocks.new) t.now.context.at xs }
+    requires there { ((xs : List ℕ) × (d : ℕ) ×
+        (r : BlackSibling (B.words blocks.old) t.now.context.at p w side xs d) ×
+        (red_of r.outer ≡ true) × Lies (B.words blocks.old) (t.now.context.at + 24) r.outer v w) }
+    ensures settled { (xs : List ℕ) (d : ℕ) (r : BlackSibling
+        (B.words blocks.old) t.now.context.at p w side xs d) → red_of r.outer ≡ true →
+        Lies (B.words blocks.old) (t.now.context.at + 24) r.outer v w →
+        Settled (B.words blocks.new) t.now.context.at xs }
+    ensures changes { (xs : List ℕ) (d : ℕ) (r : BlackSibling
+        (B.words blocks.old) t.now.context.at p w side xs d) → red_of r.outer ≡ true →
+        Lies (B.words blocks.old) (t.now.context.at + 24) r.outer v w →
+        ChangesNodes (B.words blocks.old) (B.words blocks.new) t.now.context.at xs }
 {
     let red = is_red(blocks, t, p, steps);
     recolour(blocks, t, w, red, steps);
@@ -66,9 +75,19 @@ fn turn_sibling<B: Blocks, L: Ledger>(
     steps: &mut Steps<L>,
 )
     requires ends { t.now.context.at + 64 ≤ 2 ^ 63 }
-    requires there { ((xs : List ℕ) × (d : ℕ) × (r : BlackSibling (B.words blocks.old) t.now.context.at p w side xs d) × (red_of r.near ≡ true) × (red_of r.outer ≡ false) × Lies (B.words blocks.old) (t.now.context.at + 24) r.near z w) }
-    ensures turned { (xs : List ℕ) (d : ℕ) (r : BlackSibling (B.words blocks.old) t.now.context.at p w side xs d) → red_of r.near ≡ true → red_of r.outer ≡ false → Lies (B.words blocks.old) (t.now.context.at + 24) r.near z w → (k : BlackSibling (B.words blocks.new) t.now.context.at p z side xs d) × (red_of k.outer ≡ true) × Lies (B.words blocks.new) (t.now.context.at + 24) k.outer w z }
-    ensures changes { (xs : List ℕ) (d : ℕ) (r : BlackSibling (B.words blocks.old) t.now.context.at p w side xs d) → red_of r.near ≡ true → red_of r.outer ≡ false → Lies (B.words blocks.old) (t.now.context.at + 24) r.near z w → ChangesNodes (B.words blocks.old) (B.words blocks.new) t.now.context.at xs }
+    requires there { ((xs : List ℕ) × (d : ℕ) ×
+        (r : BlackSibling (B.words blocks.old) t.now.context.at p w side xs d) ×
+        (red_of r.near ≡ true) × (red_of r.outer ≡ false) ×
+        Lies (B.words blocks.old) (t.now.context.at + 24) r.near z w) }
+    ensures turned { (xs : List ℕ) (d : ℕ) (r : BlackSibling
+        (B.words blocks.old) t.now.context.at p w side xs d) → red_of r.near ≡ true →
+        red_of r.outer ≡ false → Lies (B.words blocks.old) (t.now.context.at + 24) r.near z w →
+        (k : BlackSibling (B.words blocks.new) t.now.context.at p z side xs d) ×
+        (red_of k.outer ≡ true) × Lies (B.words blocks.new) (t.now.context.at + 24) k.outer w z }
+    ensures changes { (xs : List ℕ) (d : ℕ) (r : BlackSibling
+        (B.words blocks.old) t.now.context.at p w side xs d) → red_of r.near ≡ true →
+        red_of r.outer ≡ false → Lies (B.words blocks.old) (t.now.context.at + 24) r.near z w →
+        ChangesNodes (B.words blocks.old) (B.words blocks.new) t.now.context.at xs }
 {
     recolour(blocks, t, z, false, steps);
     recolour(blocks, t, w, true, steps);
@@ -91,10 +110,15 @@ fn black_sibling<B: Blocks, L: Ledger>(
     steps: &mut Steps<L>,
 ) -> u64
     requires ends { t.now.context.at + 64 ≤ 2 ^ 63 }
-    requires there { ((xs : List ℕ) × (d : ℕ) × Lacking (B.words blocks.old) t.now.context.at place.at place.parent place.side xs d) }
+    requires there { ((xs : List ℕ) × (d : ℕ) ×
+        Lacking (B.words blocks.old) t.now.context.at place.at place.parent place.side xs d) }
     requires below { place.parent ≢ 0 }
-    ensures black { (xs : List ℕ) (d : ℕ) → Lacking (B.words blocks.old) t.now.context.at place.at place.parent place.side xs d → BlackSibling (B.words blocks.new) t.now.context.at place.parent result place.side xs d }
-    ensures changes { (xs : List ℕ) (d : ℕ) → Lacking (B.words blocks.old) t.now.context.at place.at place.parent place.side xs d → ChangesNodes (B.words blocks.old) (B.words blocks.new) t.now.context.at xs }
+    ensures black { (xs : List ℕ) (d : ℕ) →
+        Lacking (B.words blocks.old) t.now.context.at place.at place.parent place.side xs d →
+        BlackSibling (B.words blocks.new) t.now.context.at place.parent result place.side xs d }
+    ensures changes { (xs : List ℕ) (d : ℕ) →
+        Lacking (B.words blocks.old) t.now.context.at place.at place.parent place.side xs d →
+        ChangesNodes (B.words blocks.old) (B.words blocks.new) t.now.context.at xs }
 {
     let far = other(place.side);
     let w = child(blocks, place.parent, far, steps);
@@ -115,9 +139,18 @@ fn sink<B: Blocks, L: Ledger>(
     steps: &mut Steps<L>,
 ) -> Option<Place>
     requires ends { t.now.context.at + 64 ≤ 2 ^ 63 }
-    requires there { ((xs : List ℕ) × (d : ℕ) × (r : BlackSibling (B.words blocks.old) t.now.context.at p w side xs d) × (red_of r.near ≡ false) × (red_of r.outer ≡ false)) }
-    ensures goes_on { (xs : List ℕ) (d : ℕ) (r : BlackSibling (B.words blocks.old) t.now.context.at p w side xs d) → red_of r.near ≡ false → red_of r.outer ≡ false → MatchOption result (Settled (B.words blocks.new) t.now.context.at xs) (λ q. (e : ℕ) × (suc e ≡ d) × Lacking (B.words blocks.new) t.now.context.at q.at q.parent q.side xs e) }
-    ensures changes { (xs : List ℕ) (d : ℕ) (r : BlackSibling (B.words blocks.old) t.now.context.at p w side xs d) → red_of r.near ≡ false → red_of r.outer ≡ false → ChangesNodes (B.words blocks.old) (B.words blocks.new) t.now.context.at xs }
+    requires there { ((xs : List ℕ) × (d : ℕ) ×
+        (r : BlackSibling (B.words blocks.old) t.now.context.at p w side xs d) ×
+        (red_of r.near ≡ false) × (red_of r.outer ≡ false)) }
+    ensures goes_on { (xs : List ℕ) (d : ℕ) (r : BlackSibling
+        (B.words blocks.old) t.now.context.at p w side xs d) → red_of r.near ≡ false →
+        red_of r.outer ≡ false →
+        MatchOption result (Settled (B.words blocks.new) t.now.context.at xs) (λ q. (e : ℕ) ×
+        (suc e ≡ d) × Lacking (B.words blocks.new) t.now.context.at q.at q.parent q.side xs e) }
+    ensures changes { (xs : List ℕ) (d : ℕ) (r : BlackSibling
+        (B.words blocks.old) t.now.context.at p w side xs d) → red_of r.near ≡ false →
+        red_of r.outer ≡ false →
+        ChangesNodes (B.words blocks.old) (B.words blocks.new) t.now.context.at xs }
 {
     recolour(blocks, t, w, true, steps);
     if is_red(blocks, t, p, steps) {
@@ -148,9 +181,15 @@ fn mend_step<B: Blocks, L: Ledger>(
     steps: &mut Steps<L>,
 ) -> Option<Place>
     requires ends { t.now.context.at + 64 ≤ 2 ^ 63 }
-    requires there { ((xs : List ℕ) × (d : ℕ) × Lacking (B.words blocks.old) t.now.context.at place.at place.parent place.side xs d) }
-    ensures goes_on { (xs : List ℕ) (d : ℕ) → Lacking (B.words blocks.old) t.now.context.at place.at place.parent place.side xs d → MatchOption result (Settled (B.words blocks.new) t.now.context.at xs) (λ q. (e : ℕ) × (suc e ≡ d) × Lacking (B.words blocks.new) t.now.context.at q.at q.parent q.side xs e) }
-    ensures changes { (xs : List ℕ) (d : ℕ) → Lacking (B.words blocks.old) t.now.context.at place.at place.parent place.side xs d → ChangesNodes (B.words blocks.old) (B.words blocks.new) t.now.context.at xs }
+    requires there { ((xs : List ℕ) × (d : ℕ) ×
+        Lacking (B.words blocks.old) t.now.context.at place.at place.parent place.side xs d) }
+    ensures goes_on { (xs : List ℕ) (d : ℕ) →
+        Lacking (B.words blocks.old) t.now.context.at place.at place.parent place.side xs d →
+        MatchOption result (Settled (B.words blocks.new) t.now.context.at xs) (λ q. (e : ℕ) ×
+        (suc e ≡ d) × Lacking (B.words blocks.new) t.now.context.at q.at q.parent q.side xs e) }
+    ensures changes { (xs : List ℕ) (d : ℕ) →
+        Lacking (B.words blocks.old) t.now.context.at place.at place.parent place.side xs d →
+        ChangesNodes (B.words blocks.old) (B.words blocks.new) t.now.context.at xs }
 {
     if is_red(blocks, t, place.at, steps) {
         recolour(blocks, t, place.at, false, steps);
@@ -183,9 +222,14 @@ pub(crate) fn mend<B: Blocks, L: Ledger>(
     steps: &mut Steps<L>,
 )
     requires ends { t.now.context.at + 64 ≤ 2 ^ 63 }
-    requires there { ((xs : List ℕ) × (d : ℕ) × Lacking (B.words blocks.old) t.now.context.at place.at place.parent place.side xs d) }
-    ensures settled { (xs : List ℕ) (d : ℕ) → Lacking (B.words blocks.old) t.now.context.at place.at place.parent place.side xs d → Settled (B.words blocks.new) t.now.context.at xs }
-    ensures changes { (xs : List ℕ) (d : ℕ) → Lacking (B.words blocks.old) t.now.context.at place.at place.parent place.side xs d → ChangesNodes (B.words blocks.old) (B.words blocks.new) t.now.context.at xs }
+    requires there { ((xs : List ℕ) × (d : ℕ) ×
+        Lacking (B.words blocks.old) t.now.context.at place.at place.parent place.side xs d) }
+    ensures settled { (xs : List ℕ) (d : ℕ) →
+        Lacking (B.words blocks.old) t.now.context.at place.at place.parent place.side xs d →
+        Settled (B.words blocks.new) t.now.context.at xs }
+    ensures changes { (xs : List ℕ) (d : ℕ) →
+        Lacking (B.words blocks.old) t.now.context.at place.at place.parent place.side xs d →
+        ChangesNodes (B.words blocks.old) (B.words blocks.new) t.now.context.at xs }
 {
     let mut lacking = place;
     for round in 0..u64::MAX {

@@ -1,18 +1,16 @@
-ghost use Rattle.std.specs.Prelude.{◌≡◌, ◌≢◌, ℕ, ◌+◌, ◌-◌, ◌*◌, ◌/◌, ◌%◌, ◌^◌, ◌<◌, ◌≤◌, Bool, true, false, List, ◌∷◌, ◌++◌, length};
-ghost use Rattle.zone_region.specs.Words.{Words, word_at};
+ghost use Rattle.std.specs.Prelude.{◌≡◌, ◌≢◌, ℕ, ◌+◌, ◌^◌, ◌<◌, ◌≤◌, List, ◌∷◌, ◌++◌, length};
+ghost use Rattle.zone_region.specs.Words.{word_at};
 ghost use Rattle.offset_tree.specs.Members.{In};
 ghost use Rattle.offset_tree.specs.Keys.{IsForm};
 ghost use Rattle.offset_tree.specs.Layout.{IsTree};
-ghost use Rattle.offset_tree.specs.Shape.{branch, leaf, plug, blocks_of};
+ghost use Rattle.offset_tree.specs.Shape.{blocks_of};
 ghost use Rattle.offset_tree.specs.Links.{IsShape, side_at};
-ghost use Rattle.offset_tree.specs.Sides.{index_of, other_of};
 ghost use Rattle.offset_tree.specs.Changes.{ChangesNodes};
 ghost use Rattle.offset_tree.specs.Balance.{Settled};
-ghost use Rattle.offset_tree.specs.Mending.{Lacking, OneSided};
+ghost use Rattle.offset_tree.specs.Mending.{OneSided};
 ghost use Rattle.offset_tree.specs.Attaching.{IsFresh, Filled};
 ghost use Rattle.offset_tree.specs.Removing.{Seat, seated, Leftward};
 ghost use Rattle.offset_tree.specs.Shape.{Shape};
-ghost use Rattle.offset_tree.specs.Moves.{ChangesTree};
 
 use crate::links::{
     PARENT, child, is_red, other, paint, parent, replace, sentinel, set_parent, side_of,
@@ -47,8 +45,10 @@ fn take_out<B: Blocks, L: Ledger>(
 )
     requires ends { t.now.context.at + 64 ≤ 2 ^ 63 }
     requires there { ((xs : List ℕ) × OneSided (B.words blocks.old) t.now.context.at y side xs) }
-    ensures settled { (xs : List ℕ) → OneSided (B.words blocks.old) t.now.context.at y side xs → Settled (B.words blocks.new) t.now.context.at xs }
-    ensures changes { (xs : List ℕ) → OneSided (B.words blocks.old) t.now.context.at y side xs → ChangesNodes (B.words blocks.old) (B.words blocks.new) t.now.context.at xs }
+    ensures settled { (xs : List ℕ) → OneSided (B.words blocks.old) t.now.context.at y side xs →
+        Settled (B.words blocks.new) t.now.context.at xs }
+    ensures changes { (xs : List ℕ) → OneSided (B.words blocks.old) t.now.context.at y side xs →
+        ChangesNodes (B.words blocks.old) (B.words blocks.new) t.now.context.at xs }
 {
     let red = is_red(blocks, t, y, steps);
     let v = child(blocks, y, other(side), steps);
@@ -92,9 +92,16 @@ fn fill<B: Blocks, L: Ledger>(
 /// Puts `y` in the place of `x`.
 fn substitute<B: Blocks, L: Ledger>(blocks: &mut B, t: &Tree, x: u64, y: u64, steps: &mut Steps<L>)
     requires ends { t.now.context.at + 64 ≤ 2 ^ 63 }
-    requires there { ((u : Seat) × IsShape (B.words blocks.old) t.now.context.at (seated u x) × IsFresh (B.words blocks.old) t.now.context.at y (seated u x)) }
-    ensures shape { (u : Seat) → IsShape (B.words blocks.old) t.now.context.at (seated u x) → IsFresh (B.words blocks.old) t.now.context.at y (seated u x) → IsShape (B.words blocks.new) t.now.context.at (seated u y) }
-    ensures changes { (u : Seat) (ys : List ℕ) → IsShape (B.words blocks.old) t.now.context.at (seated u x) → IsFresh (B.words blocks.old) t.now.context.at y (seated u x) → In y ys → ((z : ℕ) → In z (blocks_of (seated u x)) → In z ys) → ChangesNodes (B.words blocks.old) (B.words blocks.new) t.now.context.at ys }
+    requires there { ((u : Seat) × IsShape (B.words blocks.old) t.now.context.at (seated u x) ×
+        IsFresh (B.words blocks.old) t.now.context.at y (seated u x)) }
+    ensures shape { (u : Seat) → IsShape (B.words blocks.old) t.now.context.at (seated u x) →
+        IsFresh (B.words blocks.old) t.now.context.at y (seated u x) →
+        IsShape (B.words blocks.new) t.now.context.at (seated u y) }
+    ensures changes { (u : Seat) (ys : List ℕ) →
+        IsShape (B.words blocks.old) t.now.context.at (seated u x) →
+        IsFresh (B.words blocks.old) t.now.context.at y (seated u x) → In y ys → ((z : ℕ) →
+        In z (blocks_of (seated u x)) → In z ys) →
+        ChangesNodes (B.words blocks.old) (B.words blocks.new) t.now.context.at ys }
 {
     let left = child(blocks, x, Side::Left, steps);
     let right = child(blocks, x, Side::Right, steps);
@@ -109,8 +116,11 @@ fn substitute<B: Blocks, L: Ledger>(blocks: &mut B, t: &Tree, x: u64, y: u64, st
 /// The first block of a part of the tree.
 fn first<B: Blocks, L: Ledger>(blocks: &B, t: &Tree, part: u64, steps: &mut Steps<L>) -> u64
     requires ends { t.now.context.at + 64 ≤ 2 ^ 63 }
-    requires there { ((tree : Shape) × (before : List ℕ) × Leftward (B.words blocks.now) t.now.context.at part tree before 0) }
-    ensures first { (tree : Shape) (before : List ℕ) → Leftward (B.words blocks.now) t.now.context.at part tree before 0 → (d : ℕ) × Leftward (B.words blocks.now) t.now.context.at result tree before d }
+    requires there { ((tree : Shape) × (before : List ℕ) ×
+        Leftward (B.words blocks.now) t.now.context.at part tree before 0) }
+    ensures first { (tree : Shape) (before : List ℕ) →
+        Leftward (B.words blocks.now) t.now.context.at part tree before 0 → (d : ℕ) ×
+        Leftward (B.words blocks.now) t.now.context.at result tree before d }
     ensures empty { word_at (B.words blocks.now) result 1 ≡ t.now.context.at + 24 }
 {
     let nil = sentinel(t);
@@ -128,9 +138,15 @@ fn first<B: Blocks, L: Ledger>(blocks: &B, t: &Tree, part: u64, steps: &mut Step
 /// Takes a block out of a red-black tree. The block after it, if it has two children, takes its place.
 fn unlink<B: Blocks, L: Ledger>(blocks: &mut B, t: &Tree, b: Block, steps: &mut Steps<L>)
     requires ends { t.now.context.at + 64 ≤ 2 ^ 63 }
-    requires there { ((before : List ℕ) × (after : List ℕ) × Settled (B.words blocks.old) t.now.context.at (before ++ b.at ∷ after)) }
-    ensures settled { (before after : List ℕ) → Settled (B.words blocks.old) t.now.context.at (before ++ b.at ∷ after) → Settled (B.words blocks.new) t.now.context.at (before ++ after) }
-    ensures changes { (before after : List ℕ) → Settled (B.words blocks.old) t.now.context.at (before ++ b.at ∷ after) → ChangesNodes (B.words blocks.old) (B.words blocks.new) t.now.context.at (before ++ b.at ∷ after) }
+    requires there { ((before : List ℕ) × (after : List ℕ) ×
+        Settled (B.words blocks.old) t.now.context.at (before ++ b.at ∷ after)) }
+    ensures settled { (before after : List ℕ) →
+        Settled (B.words blocks.old) t.now.context.at (before ++ b.at ∷ after) →
+        Settled (B.words blocks.new) t.now.context.at (before ++ after) }
+    ensures changes { (before after : List ℕ) →
+        Settled (B.words blocks.old) t.now.context.at (before ++ b.at ∷ after) →
+        ChangesNodes (B.words blocks.old) (B.words blocks.new) t.now.context.at
+        (before ++ b.at ∷ after) }
 {
     let nil = sentinel(t);
     let left = child(blocks, b.at, Side::Left, steps);
@@ -154,8 +170,11 @@ fn remove_with<B: Blocks, L: Ledger>(blocks: &mut B, t: &Tree, b: Block, blank: 
     requires some { 0 < L.parts }
     requires form { IsForm t.now.form }
     requires there { ((xs : List ℕ) × IsTree (B.words blocks.old) t.now xs × In b.at xs) }
-    ensures removed { (before after : List ℕ) → IsTree (B.words blocks.old) t.now (before ++ b.at ∷ after) → IsTree (B.words blocks.new) t.now (before ++ after) }
-    ensures changes { (xs : List ℕ) → IsTree (B.words blocks.old) t.now xs → In b.at xs → ChangesNodes (B.words blocks.old) (B.words blocks.new) t.now.context.at xs }
+    ensures removed { (before after : List ℕ) →
+        IsTree (B.words blocks.old) t.now (before ++ b.at ∷ after) →
+        IsTree (B.words blocks.new) t.now (before ++ after) }
+    ensures changes { (xs : List ℕ) → IsTree (B.words blocks.old) t.now xs → In b.at xs →
+        ChangesNodes (B.words blocks.old) (B.words blocks.new) t.now.context.at xs }
 {
     let mut steps = Steps::<L>::new(blank);
     unlink(blocks, t, b, &mut steps);
@@ -163,13 +182,16 @@ fn remove_with<B: Blocks, L: Ledger>(blocks: &mut B, t: &Tree, b: Block, blank: 
 
 /// Takes a block of the tree out (`ngx_rbtree_delete`). Nobody counts its reads.
 ///
-/// Where the block has two children, the block after it takes its place. The removed block's hash, length and key stay
-/// in its words.
+/// Where the block has two children, the block after it takes its place. The removed block's hash,
+/// length and key stay in its words.
 pub fn remove<B: Blocks>(blocks: &mut B, t: &Tree, b: Block)
     requires form { IsForm t.now.form }
     requires there { ((xs : List ℕ) × IsTree (B.words blocks.old) t.now xs × In b.at xs) }
-    ensures removed { (before after : List ℕ) → IsTree (B.words blocks.old) t.now (before ++ b.at ∷ after) → IsTree (B.words blocks.new) t.now (before ++ after) }
-    ensures changes { (xs : List ℕ) → IsTree (B.words blocks.old) t.now xs → In b.at xs → ChangesNodes (B.words blocks.old) (B.words blocks.new) t.now.context.at xs }
+    ensures removed { (before after : List ℕ) →
+        IsTree (B.words blocks.old) t.now (before ++ b.at ∷ after) →
+        IsTree (B.words blocks.new) t.now (before ++ after) }
+    ensures changes { (xs : List ℕ) → IsTree (B.words blocks.old) t.now xs → In b.at xs →
+        ChangesNodes (B.words blocks.old) (B.words blocks.new) t.now.context.at xs }
 {
     remove_with::<B, Brand>(blocks, t, b, Blank::new(1))
 }

@@ -1,7 +1,4 @@
-ghost use Rattle.std.specs.Prelude.{◌≡◌, ◌≢◌, ℕ, ◌+◌, ◌-◌, ◌*◌, ◌/◌, ◌%◌, ◌^◌, ◌<◌, ◌≤◌, suc, Bool, true, false, List, ◌∷◌, ◌++◌, length, MatchOption};
-ghost use Rattle.zone_region.specs.Words.{Words, word_at, SetsWord};
-ghost use Rattle.offset_tree.specs.Links.{IsShape, red_at, side_at};
-ghost use Rattle.offset_tree.specs.Sides.{index_of, other_of};
+ghost use Rattle.std.specs.Prelude.{◌≡◌, ℕ, ◌+◌, ◌*◌, ◌^◌, ◌≤◌, suc, false, List, MatchOption};
 ghost use Rattle.offset_tree.specs.Changes.{ChangesNodes};
 ghost use Rattle.offset_tree.specs.Balance.{red_of, Settled, Rising, Conflict, RedUncle, Straight};
 
@@ -23,8 +20,12 @@ fn lift<B: Blocks, L: Ledger>(
     steps: &mut Steps<L>,
 )
     requires { ((xs : List ℕ) × (d : ℕ) × RedUncle (B.words blocks.old) t.now.context.at p v g xs d) }
-    ensures rising { (xs : List ℕ) (d : ℕ) → RedUncle (B.words blocks.old) t.now.context.at p v g xs d → (e : ℕ) × (suc (suc e) ≡ d) × Rising (B.words blocks.new) t.now.context.at g xs e }
-    ensures changes { (xs : List ℕ) (d : ℕ) → RedUncle (B.words blocks.old) t.now.context.at p v g xs d → ChangesNodes (B.words blocks.old) (B.words blocks.new) t.now.context.at xs }
+    ensures rising { (xs : List ℕ) (d : ℕ) →
+        RedUncle (B.words blocks.old) t.now.context.at p v g xs d → (e : ℕ) × (suc (suc e) ≡ d) ×
+        Rising (B.words blocks.new) t.now.context.at g xs e }
+    ensures changes { (xs : List ℕ) (d : ℕ) →
+        RedUncle (B.words blocks.old) t.now.context.at p v g xs d →
+        ChangesNodes (B.words blocks.old) (B.words blocks.new) t.now.context.at xs }
     ensures cost { steps.new ≡ steps.old + 3 }
 {
     recolour(blocks, t, p, false, steps);
@@ -43,8 +44,10 @@ fn settle<B: Blocks, L: Ledger>(
 )
     requires ends { t.now.context.at + 64 ≤ 2 ^ 63 }
     requires there { ((xs : List ℕ) × Straight (B.words blocks.old) t.now.context.at p g side xs) }
-    ensures settled { (xs : List ℕ) → Straight (B.words blocks.old) t.now.context.at p g side xs → Settled (B.words blocks.new) t.now.context.at xs }
-    ensures changes { (xs : List ℕ) → Straight (B.words blocks.old) t.now.context.at p g side xs → ChangesNodes (B.words blocks.old) (B.words blocks.new) t.now.context.at xs }
+    ensures settled { (xs : List ℕ) → Straight (B.words blocks.old) t.now.context.at p g side xs →
+        Settled (B.words blocks.new) t.now.context.at xs }
+    ensures changes { (xs : List ℕ) → Straight (B.words blocks.old) t.now.context.at p g side xs →
+        ChangesNodes (B.words blocks.old) (B.words blocks.new) t.now.context.at xs }
     ensures cost { steps.new ≤ steps.old + 6 }
 {
     recolour(blocks, t, p, false, steps);
@@ -63,9 +66,15 @@ fn resolve<B: Blocks, L: Ledger>(
     steps: &mut Steps<L>,
 )
     requires ends { t.now.context.at + 64 ≤ 2 ^ 63 }
-    requires there { ((xs : List ℕ) × (d : ℕ) × (c : Conflict (B.words blocks.old) t.now.context.at x p g side xs d) × (red_of c.uncle ≡ false)) }
-    ensures settled { (xs : List ℕ) (d : ℕ) (c : Conflict (B.words blocks.old) t.now.context.at x p g side xs d) → red_of c.uncle ≡ false → Settled (B.words blocks.new) t.now.context.at xs }
-    ensures changes { (xs : List ℕ) (d : ℕ) (c : Conflict (B.words blocks.old) t.now.context.at x p g side xs d) → red_of c.uncle ≡ false → ChangesNodes (B.words blocks.old) (B.words blocks.new) t.now.context.at xs }
+    requires there { ((xs : List ℕ) × (d : ℕ) ×
+        (c : Conflict (B.words blocks.old) t.now.context.at x p g side xs d) ×
+        (red_of c.uncle ≡ false)) }
+    ensures settled { (xs : List ℕ) (d : ℕ) (c : Conflict
+        (B.words blocks.old) t.now.context.at x p g side xs d) → red_of c.uncle ≡ false →
+        Settled (B.words blocks.new) t.now.context.at xs }
+    ensures changes { (xs : List ℕ) (d : ℕ) (c : Conflict
+        (B.words blocks.old) t.now.context.at x p g side xs d) → red_of c.uncle ≡ false →
+        ChangesNodes (B.words blocks.old) (B.words blocks.new) t.now.context.at xs }
     ensures cost { steps.new ≤ steps.old + 11 }
 {
     let inner = child(blocks, p, other(side), steps);
@@ -86,8 +95,11 @@ fn repair_step<B: Blocks, L: Ledger>(
 ) -> Option<u64>
     requires ends { t.now.context.at + 64 ≤ 2 ^ 63 }
     requires there { ((xs : List ℕ) × (d : ℕ) × Rising (B.words blocks.old) t.now.context.at x xs d) }
-    ensures goes_on { (xs : List ℕ) (d : ℕ) → Rising (B.words blocks.old) t.now.context.at x xs d → MatchOption result (Settled (B.words blocks.new) t.now.context.at xs) (λ y. (e : ℕ) × (suc (suc e) ≡ d) × Rising (B.words blocks.new) t.now.context.at y xs e) }
-    ensures changes { (xs : List ℕ) (d : ℕ) → Rising (B.words blocks.old) t.now.context.at x xs d → ChangesNodes (B.words blocks.old) (B.words blocks.new) t.now.context.at xs }
+    ensures goes_on { (xs : List ℕ) (d : ℕ) → Rising (B.words blocks.old) t.now.context.at x xs d →
+        MatchOption result (Settled (B.words blocks.new) t.now.context.at xs) (λ y. (e : ℕ) ×
+        (suc (suc e) ≡ d) × Rising (B.words blocks.new) t.now.context.at y xs e) }
+    ensures changes { (xs : List ℕ) (d : ℕ) → Rising (B.words blocks.old) t.now.context.at x xs d →
+        ChangesNodes (B.words blocks.old) (B.words blocks.new) t.now.context.at xs }
     ensures cost { MatchOption result (steps.new ≤ steps.old + 17) (λ y. steps.new ≤ steps.old + 9) }
 {
     let p = parent(blocks, x, steps);
@@ -114,9 +126,12 @@ fn repair_step<B: Blocks, L: Ledger>(
 pub(crate) fn repair<B: Blocks, L: Ledger>(blocks: &mut B, t: &Tree, x: u64, steps: &mut Steps<L>)
     requires ends { t.now.context.at + 64 ≤ 2 ^ 63 }
     requires there { ((xs : List ℕ) × (d : ℕ) × Rising (B.words blocks.old) t.now.context.at x xs d) }
-    ensures settled { (xs : List ℕ) (d : ℕ) → Rising (B.words blocks.old) t.now.context.at x xs d → Settled (B.words blocks.new) t.now.context.at xs }
-    ensures changes { (xs : List ℕ) (d : ℕ) → Rising (B.words blocks.old) t.now.context.at x xs d → ChangesNodes (B.words blocks.old) (B.words blocks.new) t.now.context.at xs }
-    ensures cost { (xs : List ℕ) (d : ℕ) → Rising (B.words blocks.old) t.now.context.at x xs d → steps.new ≤ steps.old + (17 + 5 * d) }
+    ensures settled { (xs : List ℕ) (d : ℕ) → Rising (B.words blocks.old) t.now.context.at x xs d →
+        Settled (B.words blocks.new) t.now.context.at xs }
+    ensures changes { (xs : List ℕ) (d : ℕ) → Rising (B.words blocks.old) t.now.context.at x xs d →
+        ChangesNodes (B.words blocks.old) (B.words blocks.new) t.now.context.at xs }
+    ensures cost { (xs : List ℕ) (d : ℕ) → Rising (B.words blocks.old) t.now.context.at x xs d →
+        steps.new ≤ steps.old + (17 + 5 * d) }
 {
     let mut at = x;
     for round in 0..u64::MAX {

@@ -13,9 +13,10 @@ pub struct Form {
 
 /// A red-black tree, by its context block and the form of its nodes.
 ///
-/// Word 0 of the context is the root, word 1 the sentinel's offset, and words 3 to 7 are the sentinel, as in
-/// `ngx_rbtree_t` with the sentinel beside it. Word 0 of a node is its hash, words 1 to 3 are its left and right
-/// child and its parent, and the lowest byte of word 4 is its colour: 0 for black, 1 for red.
+/// Word 0 of the context is the root, word 1 the sentinel's offset, and words 3 to 7 are the sentinel,
+/// as an `ngx_rbtree_t` and its sentinel side by side. Word 0 of a node is its hash, words 1 to 3 are its
+/// left child, its right child and its parent, and the lowest byte of word 4 is its colour: 0 for black,
+/// 1 for red.
 #[derive(Clone, Copy, Debug, PartialEq, Eq)]
 pub struct Tree {
     pub context: Block,

@@ -1,5 +1,4 @@
-ghost use Rattle.std.specs.Prelude.{◌≡◌, ◌≢◌, ℕ, ◌+◌, ◌-◌, ◌*◌, ◌/◌, ◌%◌, ◌^◌, ◌<◌, ◌≤◌, List, ◌∷◌, ◌++◌, length};
-ghost use Rattle.zone_region.specs.Words.{Words, word_at, SetsWord};
+ghost use Rattle.std.specs.Prelude.{◌≡◌, ◌+◌, ◌^◌, ◌≤◌};
 ghost use Rattle.offset_tree.specs.Links.{IsShape};
 ghost use Rattle.offset_tree.specs.Moves.{Turn, unturned, turned, Spot, shape_at, recoloured, ChangesTree};
 
@@ -19,9 +18,13 @@ pub(crate) fn rotate<B: Blocks, L: Ledger>(
     steps: &mut Steps<L>,
 )
     requires ends { t.now.context.at + 64 ≤ 2 ^ 63 }
-    requires there { ((u : Turn) × IsShape (B.words blocks.old) t.now.context.at (unturned u side x)) }
-    ensures shape { (u : Turn) → IsShape (B.words blocks.old) t.now.context.at (unturned u side x) → IsShape (B.words blocks.new) t.now.context.at (turned u side x) }
-    ensures changes { (u : Turn) → IsShape (B.words blocks.old) t.now.context.at (unturned u side x) → ChangesTree (B.words blocks.old) (B.words blocks.new) t.now.context.at (unturned u side x) }
+    requires there { ((u : Turn) ×
+        IsShape (B.words blocks.old) t.now.context.at (unturned u side x)) }
+    ensures shape { (u : Turn) → IsShape (B.words blocks.old) t.now.context.at (unturned u side x) →
+        IsShape (B.words blocks.new) t.now.context.at (turned u side x) }
+    ensures changes { (u : Turn) →
+        IsShape (B.words blocks.old) t.now.context.at (unturned u side x) →
+        ChangesTree (B.words blocks.old) (B.words blocks.new) t.now.context.at (unturned u side x) }
     ensures cost { steps.new ≤ steps.old + 4 }
 {
     let far = other(side);
@@ -43,8 +46,10 @@ pub(crate) fn recolour<B: Blocks, L: Ledger>(
     steps: &mut Steps<L>,
 )
     requires { ((u : Spot) × IsShape (B.words blocks.old) t.now.context.at (shape_at u x)) }
-    ensures shape { (u : Spot) → IsShape (B.words blocks.old) t.now.context.at (shape_at u x) → IsShape (B.words blocks.new) t.now.context.at (recoloured u x red) }
-    ensures changes { (u : Spot) → IsShape (B.words blocks.old) t.now.context.at (shape_at u x) → ChangesTree (B.words blocks.old) (B.words blocks.new) t.now.context.at (shape_at u x) }
+    ensures shape { (u : Spot) → IsShape (B.words blocks.old) t.now.context.at (shape_at u x) →
+        IsShape (B.words blocks.new) t.now.context.at (recoloured u x red) }
+    ensures changes { (u : Spot) → IsShape (B.words blocks.old) t.now.context.at (shape_at u x) →
+        ChangesTree (B.words blocks.old) (B.words blocks.new) t.now.context.at (shape_at u x) }
     ensures cost { steps.new ≡ steps.old + 1 }
 {
     paint(blocks, x, red, steps);
