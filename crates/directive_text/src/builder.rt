@@ -97,7 +97,8 @@ impl Builder {
 
     /// A word of this line is read.
     fn word(&mut self, line: u64, word: Text) -> Result<(), NoMemory>
-        ensures { OnOk result (self.new ≡ record { marks = self.old.marks ++ lexeme_marks self.old.pending line (Lexeme.Word word); blocks = self.old.blocks; pending = true }) }
+        ensures { OnOk result (self.new
+            ≡ record { marks = self.old.marks ++ lexeme_marks self.old.pending line (Lexeme.Word word); blocks = self.old.blocks; pending = true }) }
     {
         if !some_word(self.words.as_slice()) {
             self.line = line;
@@ -109,7 +110,12 @@ impl Builder {
     /// `;` is read.
     fn end(&mut self, alloc: Global) -> Result<(), NoMemory>
         requires { self.old.pending ≡ true }
-        ensures { OnOk result (self.new ≡ record { marks = self.old.marks ++ ended ∷ []; blocks = self.old.blocks; pending = false }) }
+        ensures { OnOk result (self.new
+            ≡ record {
+              marks = self.old.marks ++ ended ∷ [];
+              blocks = self.old.blocks;
+              pending = false;
+            }) }
     {
         let words = replace(&mut self.words, Items::new(alloc));
         self.done.push(Directive {
@@ -123,7 +129,12 @@ impl Builder {
     /// `{` is read.
     fn open(&mut self, alloc: Global) -> Result<(), NoMemory>
         requires { self.old.pending ≡ true }
-        ensures { OnOk result (self.new ≡ record { marks = self.old.marks ++ opened ∷ []; blocks = self.old.blocks + 1; pending = false }) }
+        ensures { OnOk result (self.new
+            ≡ record {
+              marks = self.old.marks ++ opened ∷ [];
+              blocks = self.old.blocks + 1;
+              pending = false;
+            }) }
     {
         let before = replace(&mut self.done, Items::new(alloc));
         let words = replace(&mut self.words, Items::new(alloc));
@@ -140,7 +151,12 @@ impl Builder {
     fn close(&mut self) -> Result<(), NoMemory>
         requires pending { self.old.pending ≡ false }
         requires blocks { 0 < self.old.blocks }
-        ensures { OnOk result (self.new ≡ record { marks = self.old.marks ++ closed ∷ []; blocks = self.old.blocks - 1; pending = false }) }
+        ensures { OnOk result (self.new
+            ≡ record {
+              marks = self.old.marks ++ closed ∷ [];
+              blocks = self.old.blocks - 1;
+              pending = false;
+            }) }
     {
         if let Some(frame) = self.open.pop() {
             let Frame {
@@ -157,7 +173,8 @@ impl Builder {
     /// A token is read that is no fault here.
     pub(crate) fn add(&mut self, alloc: Global, token: Token) -> Result<(), NoMemory>
         requires { kind_at self.old.blocks self.old.pending token.lexeme ≡ None }
-        ensures { OnOk result (self.new ≡ record { marks = self.old.marks ++ lexeme_marks self.old.pending token.line token.lexeme; blocks = blocks_after self.old.blocks token.lexeme; pending = is_word token.lexeme }) }
+        ensures { OnOk result (self.new
+            ≡ record { marks = self.old.marks ++ lexeme_marks self.old.pending token.line token.lexeme; blocks = blocks_after self.old.blocks token.lexeme; pending = is_word token.lexeme }) }
     {
         let Token { line, lexeme } = token;
         match lexeme {

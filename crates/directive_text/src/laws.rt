@@ -6,5 +6,6 @@ ghost use Rattle.directive_text.specs.Reading.{Spells};
 /// The canonical text of a tree spells the tree: each directive has its words and its line again. So `read`
 /// gives it, unless memory runs out.
 pub fn printed_reads_back()
-    ensures { (directives : List Directive) → Fits directives → Spells (printed directives) directives }
+    ensures { (directives : List Directive) → Fits directives
+        → Spells (printed directives) directives }
 {}

@@ -16,9 +16,12 @@ use std::alloc::Global;
 /// the order of bytes. `TextFault::NoMemory` comes where there is no memory for the tree.
 pub fn read(alloc: Global, text: &[u8]) -> Result<Tree, TextFault>
     // What is read is spelled so, and a fault is the first one.
-    ensures reads { MatchResult result (λ tree. Spells text.now tree.directives) (λ fault. ReadsFault text.now fault) }
+    ensures reads { MatchResult result (λ tree. Spells text.now tree.directives)
+        (λ fault. ReadsFault text.now fault) }
     // What is spelled so is read, unless memory runs out.
-    ensures only { (directives : List Directive) → Spells text.now directives → MatchResult result (λ tree. tree.directives ≡ directives) (λ fault. fault ≡ TextFault.NoMemory) }
+    ensures only { (directives : List Directive) → Spells text.now directives
+        → MatchResult result (λ tree. tree.directives ≡ directives)
+        (λ fault. fault ≡ TextFault.NoMemory) }
 {
     let mut scanner = Scanner::new(text);
     let mut builder = Builder::new(alloc);

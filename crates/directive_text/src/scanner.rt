@@ -32,7 +32,8 @@ impl<'t> Scanner<'t> {
 
     /// The next byte.
     fn peek(&self) -> Option<u8>
-        ensures { MatchOption result (self.now.left.now ≡ []) (λ byte. self.now.left.now ≡ byte ∷ drop 1 self.now.left.now) }
+        ensures { MatchOption result (self.now.left.now ≡ []) (λ byte. self.now.left.now
+            ≡ byte ∷ drop 1 self.now.left.now) }
     {
         self.left.first().copied()
     }
@@ -51,8 +52,11 @@ impl<'t> Scanner<'t> {
 
     /// Puts the value of the pair behind a backslash at the end of a word.
     fn pair(&mut self, word: &mut Vec<u8>) -> Result<(), NoMemory>
-        ensures plain { OnOk result (kept word.old.items (plain_pair self.old.line self.old.left.now) ≡ kept word.new.items (plain false self.new.line self.new.left.now)) }
-        ensures quoted { (quote : ℕ) → OnOk result (kept word.old.items (quoted_pair quote self.old.line self.old.left.now) ≡ kept word.new.items (quoted quote self.new.line self.new.left.now)) }
+        ensures plain { OnOk result (kept word.old.items (plain_pair self.old.line self.old.left.now)
+            ≡ kept word.new.items (plain false self.new.line self.new.left.now)) }
+        ensures quoted { (quote : ℕ)
+            → OnOk result (kept word.old.items (quoted_pair quote self.old.line self.old.left.now)
+            ≡ kept word.new.items (quoted quote self.new.line self.new.left.now)) }
         ensures fewer { length self.new.left.now ≤ length self.old.left.now }
     {
         if let Some(byte) = self.peek() {
@@ -67,7 +71,9 @@ impl<'t> Scanner<'t> {
     fn plain_byte(&mut self, word: &mut Vec<u8>, dollar: bool, byte: u8) -> Result<bool, NoMemory>
         requires next { self.old.left.now ≡ byte ∷ drop 1 self.old.left.now }
         requires inside { ends_plain dollar byte ≡ false }
-        ensures goes_on { IfOk result (λ more. kept word.old.items (plain dollar self.old.line self.old.left.now) ≡ kept word.new.items (plain more self.new.line self.new.left.now)) }
+        ensures goes_on { IfOk result
+            (λ more. kept word.old.items (plain dollar self.old.line self.old.left.now)
+            ≡ kept word.new.items (plain more self.new.line self.new.left.now)) }
         ensures fewer { length self.new.left.now < length self.old.left.now }
     {
         self.pass(byte);
@@ -81,7 +87,8 @@ impl<'t> Scanner<'t> {
 
     /// Puts the rest of a plain word at the end of what is read of it.
     fn plain_word(&mut self, word: &mut Vec<u8>, mut dollar: bool) -> Result<(), NoMemory>
-        ensures whole { OnOk result (kept word.old.items (plain dollar self.old.line self.old.left.now) ≡ kept word.new.items (ends (between self.new.line self.new.left.now))) }
+        ensures whole { OnOk result (kept word.old.items (plain dollar self.old.line self.old.left.now)
+            ≡ kept word.new.items (ends (between self.new.line self.new.left.now))) }
         ensures fewer { length self.new.left.now ≤ length self.old.left.now }
     {
         while let Some(byte) = self.peek() {
@@ -96,7 +103,8 @@ impl<'t> Scanner<'t> {
     /// Puts the rest of a quoted word at the end of what is read of it, and passes over its end.
     fn quoted_word(&mut self, word: &mut Vec<u8>, quote: u8) -> Result<(), NoMemory>
         requires { is_quote quote ≡ true }
-        ensures whole { OnOk result (kept word.old.items (quoted quote self.old.line self.old.left.now) ≡ kept word.new.items (ends (followed self.new.line self.new.left.now (between self.new.line self.new.left.now)))) }
+        ensures whole { OnOk result (kept word.old.items (quoted quote self.old.line self.old.left.now)
+            ≡ kept word.new.items (ends (followed self.new.line self.new.left.now (between self.new.line self.new.left.now)))) }
         ensures fewer { length self.new.left.now ≤ length self.old.left.now }
     {
         while let Some(byte) = self.peek() {
@@ -115,7 +123,8 @@ impl<'t> Scanner<'t> {
 
     /// Passes over the rest of a line, up to its LF.
     fn skip_comment(&mut self)
-        ensures same { comment self.old.line self.old.left.now ≡ between self.new.line self.new.left.now }
+        ensures same { comment self.old.line self.old.left.now
+            ≡ between self.new.line self.new.left.now }
         ensures fewer { length self.new.left.now ≤ length self.old.left.now }
     {
         let end = line_end(self.left);
@@ -124,8 +133,10 @@ impl<'t> Scanner<'t> {
 
     /// Passes over white space and comments, and gives the byte behind them.
     fn skip_blank(&mut self) -> Option<u8>
-        ensures same { between self.old.line self.old.left.now ≡ between self.new.line self.new.left.now }
-        ensures next { MatchOption result (self.new.left.now ≡ []) (λ byte. self.new.left.now ≡ byte ∷ drop 1 self.new.left.now) }
+        ensures same { between self.old.line self.old.left.now
+            ≡ between self.new.line self.new.left.now }
+        ensures next { MatchOption result (self.new.left.now ≡ []) (λ byte. self.new.left.now
+            ≡ byte ∷ drop 1 self.new.left.now) }
         ensures begins { IfSome result (λ byte. (is_blank byte ≡ false) × (byte ≢ 35)) }
         ensures fewer { length self.new.left.now ≤ length self.old.left.now }
     {
@@ -147,8 +158,12 @@ impl<'t> Scanner<'t> {
 
     /// Whether the next byte may not follow the closing quote before it.
     fn is_misplaced(&self) -> bool
-        ensures misplaced { result ≡ true → ahead self.now.after_quote self.now.line self.now.left.now ≡ record { line = self.now.line; lexeme = Lexeme.Misplaced } ∷ [] }
-        ensures other { result ≡ false → ahead self.now.after_quote self.now.line self.now.left.now ≡ between self.now.line self.now.left.now }
+        ensures misplaced { result
+            ≡ true → ahead self.now.after_quote self.now.line self.now.left.now
+            ≡ record { line = self.now.line; lexeme = Lexeme.Misplaced } ∷ [] }
+        ensures other { result
+            ≡ false → ahead self.now.after_quote self.now.line self.now.left.now
+            ≡ between self.now.line self.now.left.now }
     {
         if !self.after_quote {
             return false;
@@ -163,7 +178,11 @@ impl<'t> Scanner<'t> {
     fn quoted_lexeme(&mut self, alloc: Global, quote: u8) -> Result<Lexeme, NoMemory>
         requires next { self.old.left.now ≡ quote ∷ drop 1 self.old.left.now }
         requires quote { is_quote quote ≡ true }
-        ensures first { IfOk result (λ lexeme. between self.old.line self.old.left.now ≡ record { line = self.old.line; lexeme = lexeme } ∷ ahead true self.new.line self.new.left.now) }
+        ensures first { IfOk result (λ lexeme. between self.old.line self.old.left.now
+            ≡ record {
+              line = self.old.line;
+              lexeme = lexeme;
+            } ∷ ahead true self.new.line self.new.left.now) }
         ensures more { IfOk result (λ lexeme. is_last lexeme ≡ false) }
         ensures fewer { length self.new.left.now < length self.old.left.now }
     {
@@ -178,7 +197,11 @@ impl<'t> Scanner<'t> {
         requires next { self.old.left.now ≡ byte ∷ drop 1 self.old.left.now }
         requires inside { ends_plain false byte ≡ false }
         requires begins { (byte ≢ 35) × (byte ≢ 125) × (is_quote byte ≡ false) }
-        ensures first { IfOk result (λ lexeme. between self.old.line self.old.left.now ≡ record { line = self.old.line; lexeme = lexeme } ∷ ahead false self.new.line self.new.left.now) }
+        ensures first { IfOk result (λ lexeme. between self.old.line self.old.left.now
+            ≡ record {
+              line = self.old.line;
+              lexeme = lexeme;
+            } ∷ ahead false self.new.line self.new.left.now) }
         ensures more { IfOk result (λ lexeme. is_last lexeme ≡ false) }
         ensures fewer { length self.new.left.now < length self.old.left.now }
     {
@@ -192,7 +215,11 @@ impl<'t> Scanner<'t> {
     fn lexeme(&mut self, alloc: Global, byte: u8) -> Result<Lexeme, NoMemory>
         requires next { self.old.left.now ≡ byte ∷ drop 1 self.old.left.now }
         requires begins { (is_blank byte ≡ false) × (byte ≢ 35) }
-        ensures first { IfOk result (λ lexeme. between self.old.line self.old.left.now ≡ record { line = self.old.line; lexeme = lexeme } ∷ ahead (is_quote byte) self.new.line self.new.left.now) }
+        ensures first { IfOk result (λ lexeme. between self.old.line self.old.left.now
+            ≡ record {
+              line = self.old.line;
+              lexeme = lexeme;
+            } ∷ ahead (is_quote byte) self.new.line self.new.left.now) }
         ensures more { IfOk result (λ lexeme. is_last lexeme ≡ false) }
         ensures fewer { length self.new.left.now < length self.old.left.now }
     {
@@ -211,8 +238,11 @@ impl<'t> Scanner<'t> {
 
     /// The next token.
     pub(crate) fn next(&mut self, alloc: Global) -> Result<Token, NoMemory>
-        ensures first { IfOk result (λ token. ahead self.old.after_quote self.old.line self.old.left.now ≡ begun token (ahead self.new.after_quote self.new.line self.new.left.now)) }
-        ensures fewer { IfOk result (λ token. is_last token.lexeme ≡ false → length self.new.left.now < length self.old.left.now) }
+        ensures first { IfOk result
+            (λ token. ahead self.old.after_quote self.old.line self.old.left.now
+            ≡ begun token (ahead self.new.after_quote self.new.line self.new.left.now)) }
+        ensures fewer { IfOk result (λ token. is_last token.lexeme
+            ≡ false → length self.new.left.now < length self.old.left.now) }
     {
         if self.is_misplaced() {
             return Ok(Token {
