@@ -1,0 +1,48 @@
+ghost use Rattle.std.specs.Prelude.{◌≡◌, List, MatchResult};
+ghost use Rattle.directive_text.specs.Reading.{ReadsFault, Spells};
+ghost use Rattle.directive_text.specs.Steps.{is_end};
+ghost use Rattle.directive_text.specs.declared.tree.Directive.{Directive};
+
+use crate::builder::Builder;
+use crate::fault::TextFault;
+use crate::scanner::Scanner;
+use crate::token::Lexeme;
+use crate::tree::Tree;
+use std::alloc::Global;
+
+/// Reads the directives of a text, as nginx's configuration files spell them.
+///
+/// `TextFault::At` comes exactly where the text has a fault, with the line and the kind of the first one in
+/// the order of bytes. `TextFault::NoMemory` comes where there is no memory for the tree.
+pub fn read(alloc: Global, text: &[u8]) -> Result<Tree, TextFault>
+    // What is read is spelled so, and a fault is the first one.
+    ensures reads { MatchResult result (λ tree. Spells text.now tree.directives)
+        (λ fault. ReadsFault text.now fault) }
+    // What is spelled so is read, unless memory runs out.
+    ensures only { (directives : List Directive) → Spells text.now directives
+        → MatchResult result (λ tree. tree.directives ≡ directives)
+        (λ fault. fault ≡ TextFault.NoMemory) }
+{
+    let mut scanner = Scanner::new(text);
+    let mut builder = Builder::new(alloc);
+    'tokens: loop {
+        let token = scanner.next(alloc)?;
+        if let Some(kind) = builder.kind_of(&token.lexeme) {
+            return Err(TextFault::At {
+                line: token.line,
+                kind,
+            });
+        }
+        if is_end(&token.lexeme) {
+            return Ok(builder.finish());
+        }
+        builder.add(alloc, token)?;
+    }
+}
+
+/// Whether a lexeme is the end of the text.
+fn is_end(lexeme: &Lexeme) -> bool
+    ensures { result ≡ is_end lexeme.now }
+{
+    matches!(lexeme, Lexeme::End)
+}
