@@ -12,7 +12,7 @@ use Rattle.zonereplay.specs.Plan.{Plan, End, Ends, Reaches, log_fault, usage, on
 use Rattle.zonereplay.specs.Plan.Plan.{refuses}
 use Rattle.zonereplay.specs.Plan.End.{refused, written}
 use Rattle.zonereplay.specs.Answers as answers
-use Rattle.zonereplay.specs.Answers.{Taken, Devices, Told, TakesNone, Due, Refused, ErrFault, WantOfMemory, Answers, IsFree}
+use Rattle.zonereplay.specs.Answers.{Taken, Devices, Told, TakesNone, Due, Refused, ErrFault, WantOfMemory, Answers, IsFree, IsComplete}
 use Rattle.zonereplay.specs.Answers.Answers.{done, told, out_failed, err_failed, no_memory}
 use Rattle.zonereplay.specs.Stops.{StopsBy, StopTold}
 
@@ -52,7 +52,7 @@ none_due plan before after status line free (inl ends) = free.sound status line 
 none_due plan before after status line free (inr (is, same, fault)) = free.read fault.name fault.named fault.rose
 
 -- where all is free, the job is done or there was no memory
-pub complete : (plan : Plan) (before after : Devices) (status : ℕ) → Answers plan before after status → IsFree plan before after → (status ≡ 0) ⊎ (status ≡ 7)
+pub complete : (plan : Plan) (before after : Devices) (status : ℕ) → Answers plan before after status → IsComplete plan before after status
 complete plan before after status (done is all) free = inl is
 complete plan before after status (told fault) free = absurd (none_due plan before after status fault.line free fault.due)
 complete plan before after status (out_failed is fault) free = absurd (free.wrote fault.out.rose)

@@ -18,6 +18,14 @@ pub record Devices : Type 0 where
   pub out : Taken
   pub err : Taken
 
+abbrev pub devices : (List ℕ → Option (List ℕ)) → (List ℕ → ℕ) → Option (List ℕ) → ℕ → Option (List ℕ) → ℕ → Devices
+devices contents faults out out_faults err err_faults = record {
+  contents = contents;
+  faults = faults;
+  out = record { text = out; faults = out_faults };
+  err = record { text = err; faults = err_faults };
+}
+
 -- ---- one sink
 
 -- a sink took this text
@@ -106,3 +114,7 @@ pub record IsFree (plan : Plan) (before after : Devices) : Type 0 where
   pub sound : (status : ℕ) (line : List ℕ) → Ends before.contents plan (refused status line) → ⊥
   pub read : (name : List ℕ) → Reaches before.contents plan name → Rose (before.faults name) (after.faults name) → ⊥
   pub wrote : Rose before.out.faults after.out.faults → ⊥
+
+-- where all is free, the job is done or there was no memory
+abbrev pub IsComplete : Plan → Devices → Devices → ℕ → Type 0
+IsComplete plan before after status = IsFree plan before after → (status ≡ 0) ⊎ (status ≡ 7)

@@ -1,7 +1,7 @@
 ghost use Rattle.std.specs.Prelude.{◌≡◌, ◌≢◌, ◌≤◌, ◌⊎◌, ℕ, List, IsSome};
 ghost use Rattle.zonereplay.specs.Words.{one_of};
 ghost use Rattle.zonereplay.specs.Plan.{plan_of};
-ghost use Rattle.zonereplay.specs.Answers.{Answers, IsFree, Wrote};
+ghost use Rattle.zonereplay.specs.Answers.{devices, Answers, IsComplete, Wrote};
 
 use crate::output::write_lines;
 use crate::prepare::prepare_one;
@@ -33,8 +33,12 @@ pub fn one_command<F: Shelf, O: Sink, E: Sink>(
 ) -> u8
     requires { IsSome (one_of words.now) }
     ensures answers { Answers (plan_of words.now)
-        (record { contents = F.contents files.old; faults = F.faults files.old; out = record { text = O.taken out.old; faults = O.faults out.old }; err = record { text = E.taken err.old; faults = E.faults err.old } })
-        (record { contents = F.contents files.new; faults = F.faults files.new; out = record { text = O.taken out.new; faults = O.faults out.new }; err = record { text = E.taken err.new; faults = E.faults err.new } })
+        (devices (F.contents files.old) (F.faults files.old) (O.taken out.old) (O.faults out.old) (E.taken err.old) (E.faults err.old))
+        (devices (F.contents files.new) (F.faults files.new) (O.taken out.new) (O.faults out.new) (E.taken err.new) (E.faults err.new))
+        result }
+    ensures complete { IsComplete (plan_of words.now)
+        (devices (F.contents files.old) (F.faults files.old) (O.taken out.old) (O.faults out.old) (E.taken err.old) (E.faults err.old))
+        (devices (F.contents files.new) (F.faults files.new) (O.taken out.new) (O.faults out.new) (E.taken err.new) (E.faults err.new))
         result }
     ensures kept { (n : List ℕ) → F.contents files.new n ≡ F.contents files.old n }
     ensures later { (n : List ℕ) → F.faults files.old n ≤ F.faults files.new n }

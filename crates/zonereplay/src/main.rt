@@ -11,6 +11,8 @@ mod prepare;
 mod run;
 mod stop;
 mod tell;
+#[cfg(test)]
+mod tests;
 mod text;
 mod words;
 

@@ -1,7 +1,7 @@
 ghost use Rattle.std.specs.Prelude.{◌≡◌, ◌≢◌, ◌≤◌, ◌⊎◌, ℕ, List, None, IsSome};
 ghost use Rattle.zonereplay.specs.Words.{one_of};
 ghost use Rattle.zonereplay.specs.Plan.{plan_of};
-ghost use Rattle.zonereplay.specs.Answers.{Answers, IsFree};
+ghost use Rattle.zonereplay.specs.Answers.{devices, Answers, IsComplete};
 
 use crate::commands::one_command;
 use crate::tell::tell;
@@ -36,17 +36,17 @@ pub fn run<R, F: Shelf, O: Sink, E: Sink>(
 ) -> u8
     // Each status has its cause.
     ensures answers { Answers (plan_of words.now)
-        (record { contents = F.contents files.old; faults = F.faults files.old; out = record { text = O.taken out.old; faults = O.faults out.old }; err = record { text = E.taken err.old; faults = E.faults err.old } })
-        (record { contents = F.contents files.new; faults = F.faults files.new; out = record { text = O.taken out.new; faults = O.faults out.new }; err = record { text = E.taken err.new; faults = E.faults err.new } })
+        (devices (F.contents files.old) (F.faults files.old) (O.taken out.old) (O.faults out.old) (E.taken err.old) (E.faults err.old))
+        (devices (F.contents files.new) (F.faults files.new) (O.taken out.new) (O.faults out.new) (E.taken err.new) (E.faults err.new))
         result }
     // 1 exactly for words of no form, but where the usage line can't be written.
     ensures form { result ≡ 1 → one_of words.now ≡ None }
     ensures no_form { one_of words.now ≡ None → (result ≡ 1) ⊎ (result ≡ 5) }
     // With sound texts and devices without faults, the job is done or there was no memory.
-    ensures complete { IsFree (plan_of words.now)
-        (record { contents = F.contents files.old; faults = F.faults files.old; out = record { text = O.taken out.old; faults = O.faults out.old }; err = record { text = E.taken err.old; faults = E.faults err.old } })
-        (record { contents = F.contents files.new; faults = F.faults files.new; out = record { text = O.taken out.new; faults = O.faults out.new }; err = record { text = E.taken err.new; faults = E.faults err.new } })
-        → (result ≡ 0) ⊎ (result ≡ 7) }
+    ensures complete { IsComplete (plan_of words.now)
+        (devices (F.contents files.old) (F.faults files.old) (O.taken out.old) (O.faults out.old) (E.taken err.old) (E.faults err.old))
+        (devices (F.contents files.new) (F.faults files.new) (O.taken out.new) (O.faults out.new) (E.taken err.new) (E.faults err.new))
+        result }
 
     // What the files hold stays, and their counts rise only with statuses 4 and 5.
     ensures kept { (n : List ℕ) → F.contents files.new n ≡ F.contents files.old n }

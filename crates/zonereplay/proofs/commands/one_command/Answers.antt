@@ -2,15 +2,18 @@ use Rattle.std.proofs.Common.{◌≡◌, ap, sym, subst, refl, inl}
 use Rattle.zonereplay.specs.Plan.{Plan, plan_of, plan_for, one_plan}
 use Rattle.zonereplay.specs.Jobs.{asked}
 use Rattle.zonereplay.specs.Answers as answers
-use Rattle.zonereplay.specs.Answers.{Devices, Answers}
-use Rattle.zonereplay.proofs.AnswerLemmas.{stop_answers}
+use Rattle.zonereplay.specs.Answers.{devices, Answers}
+use Rattle.zonereplay.proofs.AnswerLemmas.{stop_answers, complete}
 use Rattle.zonereplay.proofs.commands.one_command.Goals as goal
 
 pub returns-in-Err-clause-answers : goal.returns-in-Err-clause-answers
 returns-in-Err-clause-answers g c =
-    let before : Devices = record { contents = g.F.Shelf.contents c.args.files.now; faults = g.F.Shelf.faults c.args.files.now; out = record { text = g.O.Sink.taken c.args.out.now; faults = g.O.Sink.faults c.args.out.now }; err = record { text = g.E.Sink.taken c.args.err.now; faults = g.E.Sink.faults c.args.err.now } } in
-    let after : Devices = record { contents = g.F.Shelf.contents c.prepare_one.new.files; faults = g.F.Shelf.faults c.prepare_one.new.files; out = record { text = g.O.Sink.taken c.args.out.now; faults = g.O.Sink.faults c.args.out.now }; err = record { text = g.E.Sink.taken c.tell_stop.new.err; faults = g.E.Sink.faults c.tell_stop.new.err } } in
+    let before = devices (g.F.Shelf.contents c.args.files.now) (g.F.Shelf.faults c.args.files.now) (g.O.Sink.taken c.args.out.now) (g.O.Sink.faults c.args.out.now) (g.E.Sink.taken c.args.err.now) (g.E.Sink.faults c.args.err.now) in
+    let after = devices (g.F.Shelf.contents c.prepare_one.new.files) (g.F.Shelf.faults c.prepare_one.new.files) (g.O.Sink.taken c.args.out.now) (g.O.Sink.faults c.args.out.now) (g.E.Sink.taken c.tell_stop.new.err) (g.E.Sink.faults c.tell_stop.new.err) in
     let log = c.in-Some.log.now in
     let plan = one_plan (asked c.in-Some.job log) in
     let is : plan_of c.args.words.now ≡ plan = ap plan_for c.in-Some.ensures in
     subst (λ (p : Plan). Answers p before after c.tell_stop.result) (sym is) (stop_answers plan before after log c.in-Err.stop c.tell_stop.result refl (inl refl) c.in-Err.ensures.stops c.tell_stop.ensures)
+
+pub returns-in-Err-clause-complete : goal.returns-in-Err-clause-complete
+returns-in-Err-clause-complete g c = complete _ _ _ _ (returns-in-Err-clause-answers g c)
