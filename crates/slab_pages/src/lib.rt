@@ -1,6 +1,7 @@
 //! Runs of free pages in the words of a zone, after `ngx_slab.c`.
 #![tactic(auto)]
 
+mod checks;
 mod descriptors;
 pub mod geometry;
 mod opening;
