@@ -1,12 +1,12 @@
 -- The walk along the list of free runs.
-use Rattle.std.proofs.Common.{ℕ, ◌≡◌, ◌≢◌, ◌+◌, ◌*◌, ◌/◌, ◌<◌, ◌≤◌, true, false, List, [], ◌∷◌, length, get_or, sym, ap, subst, ◌∙◌, refl, arith, Some, None}
+use Rattle.std.proofs.Common.{ℕ, ◌≡◌, ◌≢◌, ◌+◌, ◌<◌, ◌≤◌, true, false, List, [], ◌∷◌, length, sym, subst, ◌∙◌, refl, arith, Some, None}
 use Rattle.std.proofs.lemmas.Grind.{common_steps}
 use Rattle.slab_model.specs.declared.runs.Run.{Run}
 use Rattle.slab_model.specs.Runs.{AreSound, first_fit, is_covered, is_within}
-use Rattle.slab_pages.specs.Places.{free_head, descriptor, slab_at, next_at, prev_at}
+use Rattle.slab_pages.specs.Places.{free_head, descriptor, slab_at, next_at}
 use Rattle.slab_pages.specs.Layout.{LaysFrom}
 use Rattle.slab_pages.specs.Steps.{LaysList}
-use Rattle.slab_pages.proofs.PlaceLemmas.{descriptor-word, descriptor-head}
+use Rattle.slab_pages.proofs.PlaceLemmas.{descriptor-head}
 use Rattle.slab_pages.proofs.GiveLemmas.{page_total-le, length-runs}
 
 -- the descriptor at `o` is the first of these runs, or the head where there is none

@@ -47,10 +47,8 @@ fn is_busy(region: &Region, page: u64) -> bool
 pub(crate) fn is_apart(region: &Region, first: u64, n: u64) -> bool
     requires small { first + n ≤ 16384 }
     requires laid { ((count : ℕ) × (runs : List Run) × LaysList count region.now runs) }
-    ensures {
-        (count : ℕ) (runs : List Run) → LaysList count region.now runs →
-        (IsTrue result ↔ IsClearOfFree runs first (first + n))
-    }
+    ensures { (count : ℕ) (runs : List Run) → LaysList count region.now runs →
+        (IsTrue result ↔ IsClearOfFree runs first (first + n)) }
 {
     for page in first..first + n {
         if is_free(region, page) {
@@ -63,10 +61,8 @@ pub(crate) fn is_apart(region: &Region, first: u64, n: u64) -> bool
 // The page is free, or its descriptor is that of a page that isn't.
 pub(crate) fn is_settled(region: &Region, page: u64) -> bool
     requires { ((count : ℕ) × (runs : List Run) × LaysList count region.now runs × (page < count)) }
-    ensures {
-        (count : ℕ) (runs : List Run) → LaysList count region.now runs →
-        (IsTrue result ↔ (is_covered page runs ≡ false → IsBusy region.now page))
-    }
+    ensures { (count : ℕ) (runs : List Run) → LaysList count region.now runs →
+        (IsTrue result ↔ (is_covered page runs ≡ false → IsBusy region.now page)) }
 {
     if is_free(region, page) {
         return true;
@@ -77,10 +73,8 @@ pub(crate) fn is_settled(region: &Region, page: u64) -> bool
 // The page before this one, if there is one, is settled.
 fn is_settled_before(region: &Region, first: u64) -> bool
     requires { ((count : ℕ) × (runs : List Run) × LaysList count region.now runs × (first ≤ count)) }
-    ensures {
-        (count : ℕ) (runs : List Run) → LaysList count region.now runs →
-        (IsTrue result ↔ ((page : ℕ) → page + 1 ≡ first → is_covered page runs ≡ false → IsBusy region.now page))
-    }
+    ensures { (count : ℕ) (runs : List Run) → LaysList count region.now runs →
+        (IsTrue result ↔ ((page : ℕ) → page + 1 ≡ first → is_covered page runs ≡ false → IsBusy region.now page)) }
 {
     if first == 0 {
         return true;
@@ -91,10 +85,8 @@ fn is_settled_before(region: &Region, first: u64) -> bool
 // This page, if the zone has it, is settled.
 fn is_settled_after(region: &Region, count: u64, page: u64) -> bool
     requires { ((runs : List Run) × LaysList count region.now runs × (page ≤ count)) }
-    ensures {
-        (runs : List Run) → LaysList count region.now runs →
-        (IsTrue result ↔ (page < count → is_covered page runs ≡ false → IsBusy region.now page))
-    }
+    ensures { (runs : List Run) → LaysList count region.now runs →
+        (IsTrue result ↔ (page < count → is_covered page runs ≡ false → IsBusy region.now page)) }
 {
     if page == count {
         return true;
@@ -107,10 +99,8 @@ pub(crate) fn is_used(region: &Region, count: u64, first: u64, n: u64) -> bool
     requires some { 0 < n }
     requires within { first + n ≤ count }
     requires laid { ((runs : List Run) × LaysList count region.now runs) }
-    ensures {
-        let run : Run = record { first = first; pages = n } in
-        (runs : List Run) → LaysList count region.now runs → (IsTrue result ↔ IsUsed count region.now runs run)
-    }
+    ensures { let run : Run = record { first = first; pages = n } in
+        (runs : List Run) → LaysList count region.now runs → (IsTrue result ↔ IsUsed count region.now runs run) }
 {
     if !is_apart(region, first, n) {
         return false;

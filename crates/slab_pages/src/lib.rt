@@ -10,3 +10,6 @@ mod runs;
 
 pub use geometry::{Geometry, TooSmall};
 pub use pages::{Page, Pages};
+
+#[cfg(test)]
+mod tests;

@@ -74,6 +74,13 @@ impl Pages {
         self.region.load(PFREE)
     }
 
+    /// The number of the zone's words.
+    pub fn word_count(&self) -> u64
+        ensures { result ≡ length self.now.words }
+    {
+        self.region.len()
+    }
+
     /// Word `w` of the zone.
     pub fn word(&self, w: u64) -> u64
         requires { w < length self.now.words }
@@ -121,16 +128,12 @@ impl Pages {
     ///
     /// It walks the list of free runs for each page.
     pub fn can_put(&self, p: Page, n: u64) -> bool
-        ensures yes {
-            let run : Run = record { first = p.number; pages = n } in
+        ensures yes { let run : Run = record { first = p.number; pages = n } in
             IsTrue result →
-            ((runs : List Run) × LaysRuns self.now runs × IsUsed (pages_of self.now.bytes) self.now.words runs run)
-        }
-        ensures whenever {
-            let run : Run = record { first = p.number; pages = n } in
+            ((runs : List Run) × LaysRuns self.now runs × IsUsed (pages_of self.now.bytes) self.now.words runs run) }
+        ensures whenever { let run : Run = record { first = p.number; pages = n } in
             (runs : List Run) → LaysRuns self.now runs → IsUsed (pages_of self.now.bytes) self.now.words runs run →
-            IsTrue result
-        }
+            IsTrue result }
     {
         let pages = self.geometry.pages;
         if n == 0 || p.number >= pages || n > pages - p.number {

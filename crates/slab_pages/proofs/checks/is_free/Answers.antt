@@ -1,4 +1,4 @@
-use Rattle.std.proofs.Common.{ℕ, ◌≡◌, ◌+◌, ◌/◌, true, false, sym, ap, subst, arith, ◌∙◌}
+use Rattle.std.proofs.Common.{ℕ, ◌+◌, sym, ap, subst, arith, ◌∙◌}
 use Rattle.slab_model.specs.Runs.{is_within}
 use Rattle.slab_pages.specs.Places.{slab_at}
 use Rattle.slab_pages.proofs.PlaceLemmas.{descriptor-word}
