@@ -1,15 +1,15 @@
 -- Pages are taken from the front of a listed run.
-use Rattle.std.proofs.Common.{ℕ, ◌≡◌, ◌≢◌, ◌⊎◌, ◌+◌, ◌*◌, ◌-◌, ◌/◌, ◌<◌, ◌≤◌, Bool, true, false, List, [], ◌∷◌, length, get_or, sym, ap, subst, ◌∙◌, refl, arith, inl, inr, Some, None}
+use Rattle.std.proofs.Common.{ℕ, ◌≡◌, ◌≢◌, ◌⊎◌, ◌+◌, ◌-◌, ◌<◌, ◌≤◌, List, [], ◌∷◌, sym, ap, subst, ◌∙◌, refl, arith, inl, inr, Some}
 use Rattle.std.proofs.lemmas.Grind.{common_steps}
-use Rattle.std.proofs.lemmas.Bool.{cases_eq, cases_lt}
+use Rattle.std.proofs.lemmas.Bool.{cases_eq}
 use Rattle.slab_model.specs.declared.runs.Run.{Run}
-use Rattle.slab_model.specs.Runs.{AreApart, IsApart, AreSound, is_within, is_covered, pages_from, first_fit, cut_run, take_run}
-use Rattle.slab_model.proofs.RunLemmas.{AreSound-take, is_covered-take}
-use Rattle.slab_pages.specs.Places.{free_head, pfree, descriptor, slab_at, next_at, prev_at, HasWords, IsPlace, Links, KeepsOthers}
-use Rattle.slab_pages.specs.Layout.{HasTail, LaysFrom}
-use Rattle.slab_pages.specs.Steps.{SameWords, LaysList, IsBlank, BeginsRun, Relists, Unlinks, change, without_run}
-use Rattle.slab_pages.proofs.PlaceLemmas.{descriptor-word, descriptor-head, descriptor-injective, descriptor-other, SameWords-then, Links-slab, Links-next, Links-prev, Links-prev_head}
-use Rattle.slab_pages.proofs.ListLemmas.{pages_from-here, pages_from-there, pages_from-covers, pages_from-beyond, pages_from-within, HasTail-kept, covered-first, covered-rest, Near, Outside, relink, relaid}
+use Rattle.slab_model.specs.Runs.{AreSound, pages_from, first_fit, cut_run, take_run}
+use Rattle.slab_model.proofs.RunLemmas.{AreSound-take}
+use Rattle.slab_pages.specs.Places.{free_head, pfree, descriptor, slab_at, next_at, prev_at, IsPlace, Links}
+use Rattle.slab_pages.specs.Layout.{LaysFrom}
+use Rattle.slab_pages.specs.Steps.{LaysList, IsBlank, BeginsRun, Relists, Unlinks, change, without_run}
+use Rattle.slab_pages.proofs.PlaceLemmas.{descriptor-head, descriptor-other, SameWords-then, Links-slab, Links-next, Links-prev, Links-prev_head}
+use Rattle.slab_pages.proofs.ListLemmas.{pages_from-here, pages_from-covers, pages_from-beyond, HasTail-kept, covered-rest, Near, Outside, relink, relaid}
 use Rattle.slab_pages.proofs.UnlinkLemmas.{run_at, IsNode, node_place, node_before, node_after, before_beyond, after_beyond, near_here, links_free, links_kept, kept_then}
 use Rattle.slab_pages.proofs.AddLemmas.{begun_other, begun_head, begun_kept, links_other}
 

@@ -1,15 +1,14 @@
 -- What the code meets at the descriptors that it reads.
-use Rattle.std.proofs.Common.{ℕ, ◌≡◌, ◌≢◌, ◌⊎◌, ◌+◌, ◌*◌, ◌-◌, ◌/◌, ◌%◌, ◌^◌, ◌<◌, ◌≤◌, Bool, true, false, List, [], ◌∷◌, length, get_or, sym, ap, subst, ◌∙◌, refl, arith, inl, inr, Some, None}
-use Rattle.std.specs.Prelude.{nat_eq, if◌then◌else◌}
+use Rattle.std.proofs.Common.{ℕ, ◌≡◌, ◌≢◌, ◌+◌, ◌*◌, ◌-◌, ◌/◌, ◌%◌, ◌^◌, ◌<◌, ◌≤◌, false, List, length, sym, ap, subst, ◌∙◌, refl, arith, inl, inr}
 use Rattle.std.proofs.lemmas.Grind.{common_steps}
-use Rattle.std.proofs.lemmas.Bool.{cases_eq, cases_lt}
+use Rattle.std.proofs.lemmas.Bool.{cases_lt}
 use Rattle.slab_model.specs.declared.runs.Run.{Run}
-use Rattle.slab_model.specs.Runs.{AreSound, is_covered, pages_from, pages_before}
-use Rattle.slab_pages.specs.Places.{free_head, pfree, descriptor, slab_at, next_at, prev_at, HasWords, IsPlace, Links, KeepsOthers}
-use Rattle.slab_pages.specs.Layout.{HasTail, LaysFrom, IsBusy, HasUsedRun}
-use Rattle.slab_pages.specs.Steps.{LaysList, SetsWords, FillsRun, Detaches, IsAfter, IsBefore, MarksUsed, start_at, without_run}
-use Rattle.slab_pages.proofs.PlaceLemmas.{descriptor-word, descriptor-head, descriptor-zero, descriptor-other, HasWords-kept, SetsWords-other}
-use Rattle.slab_pages.proofs.ListLemmas.{pages_from-covers, pages_from-within}
+use Rattle.slab_model.specs.Runs.{is_covered, pages_from, pages_before}
+use Rattle.slab_pages.specs.Places.{free_head, descriptor, slab_at, next_at, prev_at, HasWords, Links}
+use Rattle.slab_pages.specs.Layout.{IsBusy}
+use Rattle.slab_pages.specs.Steps.{LaysList, SetsWords, FillsRun, Detaches, IsAfter, IsBefore, MarksUsed, start_at}
+use Rattle.slab_pages.proofs.PlaceLemmas.{descriptor-word, descriptor-zero, HasWords-kept}
+use Rattle.slab_pages.proofs.ListLemmas.{pages_from-within}
 use Rattle.slab_pages.proofs.UnlinkLemmas.{run_at, IsNode, node_before, node_after}
 use Rattle.slab_pages.proofs.JoinLemmas.{covered-within, before-from, uncovered-from, without-none}
 

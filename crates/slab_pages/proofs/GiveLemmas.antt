@@ -1,20 +1,19 @@
 -- Taking and giving back whole runs.
-use Rattle.std.proofs.Common.{ℕ, ◌≡◌, ◌≢◌, ◌⊎◌, zero, suc, ◌+◌, ◌*◌, ◌-◌, ◌/◌, ◌%◌, ◌^◌, ◌<◌, ◌≤◌, Bool, true, false, not, ◌&&◌, ◌||◌, List, [], ◌∷◌, length, get_or, set, sym, ap, subst, ◌∙◌, refl, arith, inl, inr, Some, None, min, add-one}
-use Rattle.std.proofs.lemmas.List.{length-set}
-use Rattle.std.specs.Prelude.{filter, nat_eq, if◌then◌else◌}
+use Rattle.std.proofs.Common.{ℕ, ◌≡◌, ◌≢◌, ◌⊎◌, zero, suc, ◌+◌, ◌*◌, ◌-◌, ◌/◌, ◌%◌, ◌^◌, ◌<◌, ◌≤◌, Bool, true, false, not, ◌&&◌, ◌||◌, List, [], ◌∷◌, length, get_or, set, sym, ap, subst, ◌∙◌, refl, arith, inl, inr, Some, min}
+use Rattle.std.specs.Prelude.{filter, if◌then◌else◌}
 use Rattle.std.proofs.lemmas.Grind.{common_steps}
 use Rattle.std.proofs.lemmas.Bool.{cases_eq, cases_lt}
 use Rattle.slab_model.specs.declared.runs.Run.{Run}
-use Rattle.slab_model.specs.Runs.{AreApart, IsApart, AreSound, is_within, is_covered, page_total, pages_from, pages_before, merged_run, is_beside, first_fit, take_run, give_run}
-use Rattle.slab_model.proofs.RunLemmas.{AreSound-give, is_covered-give, is_covered-take, page_total-take, page_total-give, first_fit-covered, is_within-in}
-use Rattle.slab_pages.specs.Places.{free_head, pfree, descriptor, slab_at, next_at, prev_at, HasWords, IsPlace, KeepsOthers, is_list_word, is_run_word}
-use Rattle.slab_pages.specs.Layout.{HasTail, LaysFrom, IsBusy, IsUsed, HasUsedRun}
+use Rattle.slab_model.specs.Runs.{IsApart, AreSound, is_covered, page_total, pages_from, pages_before, merged_run, is_beside, first_fit, take_run, give_run}
+use Rattle.slab_model.proofs.RunLemmas.{AreSound-give, is_covered-give, is_covered-take, page_total-take, first_fit-covered, is_within-in}
+use Rattle.slab_pages.specs.Places.{free_head, pfree, descriptor, KeepsOthers, is_list_word, is_run_word}
+use Rattle.slab_pages.specs.Layout.{IsBusy, IsUsed}
 use Rattle.slab_pages.specs.Steps.{SameWords, LaysList, FillsRun, Detaches, IsCleared, Relists, MarksUsed, TakesRun, GivesRun, IsAfter, IsBefore, without_run}
 use Rattle.slab_pages.proofs.PlaceLemmas.{descriptor-word, HasWords-kept, SameWords-then}
 use Rattle.slab_pages.proofs.WriteLemmas.{get-written, get-read, length-written}
-use Rattle.slab_pages.proofs.ListLemmas.{pages_from-covers, pages_from-within, covers-apart}
-use Rattle.slab_pages.proofs.UnlinkLemmas.{beyond_run, covered-without, covered-of_without, AreSound-without, kept_then, LaysList-kept}
-use Rattle.slab_pages.proofs.JoinLemmas.{covered-within, covered-before, covered-from, uncovered-from, before-from, before-without, filter-without}
+use Rattle.slab_pages.proofs.ListLemmas.{covers-apart}
+use Rattle.slab_pages.proofs.UnlinkLemmas.{beyond_run, covered-without, covered-of_without, kept_then, LaysList-kept}
+use Rattle.slab_pages.proofs.JoinLemmas.{covered-before, covered-from, before-from, before-without, filter-without}
 
 differ : true ≡ false → ⊥
 differ e = cc

@@ -1,17 +1,13 @@
 -- The free runs beside a run that comes back.
-use Rattle.std.proofs.Common.{ℕ, ◌≡◌, ◌≢◌, ◌⊎◌, zero, suc, ◌+◌, ◌*◌, ◌-◌, ◌/◌, ◌%◌, ◌<◌, ◌≤◌, Bool, true, false, not, ◌&&◌, ◌||◌, List, [], ◌∷◌, length, get_or, sym, ap, subst, ◌∙◌, refl, arith, inl, inr, Some, None}
-use Rattle.std.specs.Prelude.{filter, nat_eq, if◌then◌else◌}
+use Rattle.std.proofs.Common.{ℕ, ◌≡◌, ◌≢◌, ◌+◌, ◌-◌, ◌<◌, ◌≤◌, true, false, not, List, [], ◌∷◌, sym, ap, subst, ◌∙◌, refl, arith, inl, inr}
+use Rattle.std.specs.Prelude.{filter}
 use Rattle.std.proofs.lemmas.Grind.{common_steps}
 use Rattle.std.proofs.lemmas.Bool.{cases_eq, cases_lt}
 use Rattle.slab_model.specs.declared.runs.Run.{Run}
-use Rattle.slab_model.specs.Runs.{AreApart, IsApart, AreSound, is_within, is_covered, page_total, pages_from, pages_before, merged_run, is_beside, give_run}
-use Rattle.slab_model.proofs.RunLemmas.{AreSound-give, is_covered-give}
-use Rattle.slab_pages.specs.Places.{free_head, pfree, descriptor, slab_at, next_at, prev_at, HasWords, IsPlace, Links, KeepsOthers, is_list_word, is_run_word}
-use Rattle.slab_pages.specs.Layout.{HasTail, LaysFrom, IsBusy, IsUsed}
-use Rattle.slab_pages.specs.Steps.{SameWords, LaysList, FillsRun, Detaches, IsCleared, Relists, GivesRun, IsAfter, IsBefore, change, without_run}
-use Rattle.slab_pages.proofs.PlaceLemmas.{descriptor-word, descriptor-head, descriptor-zero, descriptor-injective, HasWords-kept, SameWords-then}
-use Rattle.slab_pages.proofs.ListLemmas.{pages_from-there, pages_from-covers, pages_from-apart, pages_from-beyond, pages_from-within, covered-first, covered-rest, covers-apart}
-use Rattle.slab_pages.proofs.UnlinkLemmas.{run_at, IsNode, node_place, node_before, node_after, covered-without, covered-of_without, AreSound-without, kept_then, LaysList-kept}
+use Rattle.slab_model.specs.Runs.{IsApart, AreSound, is_covered, pages_from, pages_before, is_beside}
+use Rattle.slab_pages.specs.Steps.{without_run}
+use Rattle.slab_pages.proofs.ListLemmas.{pages_from-there, pages_from-covers, pages_from-apart, covered-first}
+use Rattle.slab_pages.proofs.UnlinkLemmas.{AreSound-without}
 
 -- ---- pages
 

@@ -1,14 +1,12 @@
 -- What writes to the links of the list of free runs leave.
-use Rattle.std.proofs.Common.{ℕ, ◌≡◌, ◌≢◌, ◌⊎◌, ◌+◌, ◌*◌, ◌-◌, ◌/◌, ◌<◌, ◌≤◌, Bool, true, false, cond, List, [], ◌∷◌, length, get_or, sym, ap, subst, ◌∙◌, refl, arith, inl, inr}
-use Rattle.std.specs.Prelude.{nat_eq, if◌then◌else◌}
+use Rattle.std.proofs.Common.{ℕ, ◌≡◌, ◌≢◌, ◌⊎◌, ◌+◌, ◌-◌, ◌<◌, ◌≤◌, true, List, [], ◌∷◌, sym, ap, subst, ◌∙◌, refl, arith, inl, inr}
 use Rattle.std.proofs.lemmas.Grind.{common_steps}
 use Rattle.std.proofs.lemmas.Bool.{cases_eq, cases_lt}
 use Rattle.slab_model.specs.declared.runs.Run.{Run}
-use Rattle.slab_model.specs.Runs.{AreApart, IsApart, AreSound, is_within, is_covered, page_total, first_fit, cut_run, take_run, pages_before, pages_from}
-use Rattle.slab_model.proofs.RunLemmas.{apart_covers}
-use Rattle.slab_pages.specs.Places.{free_head, descriptor, slab_at, next_at, prev_at, HasWords, IsPlace}
+use Rattle.slab_model.specs.Runs.{AreApart, IsApart, AreSound, is_covered, pages_from}
+use Rattle.slab_pages.specs.Places.{free_head, descriptor, slab_at, next_at, prev_at, IsPlace}
 use Rattle.slab_pages.specs.Layout.{HasTail, LaysFrom}
-use Rattle.slab_pages.proofs.PlaceLemmas.{descriptor-word, descriptor-head, descriptor-injective, descriptor-other, HasWords-kept}
+use Rattle.slab_pages.proofs.PlaceLemmas.{descriptor-head, descriptor-injective, HasWords-kept}
 use Rattle.slab_pages.specs.Steps.{SameWords, change}
 
 -- ---- pages and runs

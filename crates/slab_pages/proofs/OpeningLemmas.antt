@@ -1,19 +1,17 @@
 -- The words of a fresh zone.
-use Rattle.std.proofs.Common.{ℕ, ◌≡◌, ◌≢◌, ◌⊎◌, zero, suc, ◌+◌, ◌*◌, ◌-◌, ◌/◌, ◌%◌, ◌<◌, ◌≤◌, Bool, true, false, ◌&&◌, cond, List, [], ◌∷◌, length, get_or, set, take, sym, ap, subst, ◌∙◌, refl, arith, inl, inr}
-use Rattle.std.specs.Prelude.{nat_eq, nat_lt, if◌then◌else◌, replicate}
+use Rattle.std.proofs.Common.{ℕ, ◌≡◌, ◌≢◌, ◌⊎◌, zero, suc, ◌+◌, ◌*◌, ◌-◌, ◌/◌, ◌%◌, ◌<◌, ◌≤◌, true, false, List, [], ◌∷◌, length, get_or, set, take, sym, ap, subst, ◌∙◌, refl, arith, inl, inr}
+use Rattle.std.specs.Prelude.{nat_eq, if◌then◌else◌, replicate}
 use Rattle.std.proofs.lemmas.Grind.{common_steps}
-use Rattle.std.proofs.lemmas.Bool.{cases_eq, cases_lt}
+use Rattle.std.proofs.lemmas.Bool.{cases_eq}
 use Rattle.std.proofs.lemmas.List.{length-set, length-replicate}
 use Rattle.slab_model.specs.declared.runs.Run.{Run}
-use Rattle.slab_model.specs.declared.page.PageState.{PageState}
 use Rattle.slab_model.specs.declared.page.PageState.TheVariants.{Free, First, Class}
 use Rattle.slab_model.specs.Geometry.{pages_of, most_pages, start_of, least_zone, greatest_zone, class_count}
-use Rattle.slab_model.specs.Runs.{AreSound, is_covered, page_total}
-use Rattle.slab_model.specs.Slab.{Slab, page_at, list_of, stat_of, no_stat, opened}
-use Rattle.slab_pages.specs.Places.{Image, free_head, pfree, descriptor, slab_at, next_at, prev_at, HasWords, KeepsOthers, is_list_word, is_run_word}
-use Rattle.slab_pages.specs.Layout.{LaysFrom, LaysRuns}
+use Rattle.slab_model.specs.Runs.{page_total}
+use Rattle.slab_model.specs.Slab.{no_stat}
+use Rattle.slab_pages.specs.Places.{free_head, pfree, descriptor, is_list_word, is_run_word}
 use Rattle.slab_pages.specs.Steps.{LaysList, IsCleared, Relists}
-use Rattle.slab_pages.specs.SlabLayout.{LaysHeader, LaysClass, LaysStat, LaysSlab, IsOpened, class_head, stat_word}
+use Rattle.slab_pages.specs.SlabLayout.{LaysClass, LaysStat, IsOpened, class_head, stat_word}
 use Rattle.slab_pages.specs.Opening.{all_below, put_all, WritesHeads, IsPrepared}
 use Rattle.slab_pages.proofs.PlaceLemmas.{descriptor-word}
 use Rattle.slab_pages.proofs.WriteLemmas.{get-written, get-read, length-written}

@@ -1,15 +1,14 @@
 -- The list of free runs in the words of a zone of known bytes.
-use Rattle.std.proofs.Common.{ℕ, ◌≡◌, ◌≢◌, ◌⊎◌, ◌+◌, ◌*◌, ◌-◌, ◌/◌, ◌<◌, ◌≤◌, Bool, true, false, List, [], ◌∷◌, length, get_or, set, sym, ap, subst, ◌∙◌, refl, arith, inl, inr}
+use Rattle.std.proofs.Common.{ℕ, ◌≡◌, ◌≢◌, ◌+◌, ◌*◌, ◌/◌, ◌≤◌, false, List, [], ◌∷◌, length, get_or, set, sym, ap, subst, ◌∙◌, refl, arith, inl, inr}
 use Rattle.std.proofs.lemmas.Grind.{common_steps}
-use Rattle.std.proofs.lemmas.Bool.{cases_eq}
 use Rattle.slab_model.specs.declared.runs.Run.{Run}
 use Rattle.slab_model.specs.Geometry.{pages_of, most_pages, start_of, least_zone, greatest_zone}
-use Rattle.slab_model.specs.Runs.{AreSound, is_covered, page_total, take_run, give_run}
+use Rattle.slab_model.specs.Runs.{page_total, take_run, give_run}
 use Rattle.slab_model.proofs.RunLemmas.{page_total-give}
-use Rattle.slab_pages.specs.Places.{Image, free_head, pfree, descriptor, slab_at, next_at, prev_at, is_list_word, is_run_word}
-use Rattle.slab_pages.specs.Layout.{LaysFrom, LaysRuns, IsUsed}
-use Rattle.slab_pages.specs.Steps.{SameWords, LaysList, TakesRun, GivesRun}
-use Rattle.slab_pages.proofs.PlaceLemmas.{descriptor-word, descriptor-head, descriptor-injective}
+use Rattle.slab_pages.specs.Places.{Image, free_head, pfree, descriptor, slab_at, is_list_word, is_run_word}
+use Rattle.slab_pages.specs.Layout.{LaysFrom, LaysRuns}
+use Rattle.slab_pages.specs.Steps.{LaysList, TakesRun, GivesRun}
+use Rattle.slab_pages.proofs.PlaceLemmas.{descriptor-head, descriptor-injective}
 use Rattle.slab_pages.proofs.WriteLemmas.{get-written, length-written}
 use Rattle.slab_pages.proofs.UnlinkLemmas.{LaysList-kept, beyond_run}
 

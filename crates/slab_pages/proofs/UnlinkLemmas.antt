@@ -1,14 +1,14 @@
 -- A run leaves the list of free runs.
-use Rattle.std.proofs.Common.{ℕ, ◌≡◌, ◌≢◌, ◌⊎◌, ◌+◌, ◌*◌, ◌-◌, ◌/◌, ◌<◌, ◌≤◌, Bool, true, false, List, [], ◌∷◌, length, get_or, sym, ap, subst, ◌∙◌, refl, arith, inl, inr}
+use Rattle.std.proofs.Common.{ℕ, ◌≡◌, ◌≢◌, ◌⊎◌, ◌+◌, ◌*◌, ◌-◌, ◌/◌, ◌<◌, ◌≤◌, true, false, List, [], ◌∷◌, length, get_or, sym, ap, subst, ◌∙◌, refl, arith, inl, inr}
 use Rattle.std.proofs.lemmas.Grind.{common_steps}
 use Rattle.std.proofs.lemmas.Bool.{cases_eq, cases_lt}
 use Rattle.slab_model.specs.declared.runs.Run.{Run}
-use Rattle.slab_model.specs.Runs.{AreApart, IsApart, AreSound, is_within, is_covered, pages_from}
+use Rattle.slab_model.specs.Runs.{IsApart, AreSound, is_covered, pages_from}
 use Rattle.slab_pages.specs.Places.{free_head, pfree, descriptor, slab_at, next_at, prev_at, HasWords, IsPlace, Links, KeepsOthers, is_list_word, is_run_word}
 use Rattle.slab_pages.specs.Layout.{HasTail, LaysFrom}
-use Rattle.slab_pages.specs.Steps.{SameWords, SetsWords, LaysList, Unlinks, Detaches, change, without_run}
+use Rattle.slab_pages.specs.Steps.{SameWords, SetsWords, LaysList, Unlinks, Detaches, without_run}
 use Rattle.slab_pages.proofs.PlaceLemmas.{descriptor-word, descriptor-head, descriptor-injective, descriptor-other, HasWords-kept, SameWords-then, SetsWords-other, Links-slab, Links-next, Links-prev, Links-prev_head}
-use Rattle.slab_pages.proofs.ListLemmas.{pages_from-here, pages_from-there, pages_from-covers, pages_from-apart, pages_from-beyond, pages_from-within, pages_from-inside, LaysFrom-kept, covered-rest, covers-apart, Near, Outside, prev_in, next_in, relink, relaid}
+use Rattle.slab_pages.proofs.ListLemmas.{pages_from-here, pages_from-there, pages_from-covers, pages_from-beyond, pages_from-inside, LaysFrom-kept, covered-rest, covers-apart, Near, prev_in, next_in, relink, relaid}
 
 -- ---- the list without a run
 

@@ -1,12 +1,12 @@
 -- The walk along the list of free runs.
-use Rattle.std.proofs.Common.{ℕ, ◌≡◌, ◌≢◌, ◌+◌, ◌*◌, ◌/◌, ◌<◌, ◌≤◌, List, [], ◌∷◌, length, get_or, sym, ap, subst, ◌∙◌, refl, arith, Some, None}
+use Rattle.std.proofs.Common.{ℕ, ◌≡◌, ◌≢◌, ◌+◌, ◌<◌, ◌≤◌, true, false, List, [], ◌∷◌, length, sym, subst, ◌∙◌, refl, arith, Some, None}
 use Rattle.std.proofs.lemmas.Grind.{common_steps}
 use Rattle.slab_model.specs.declared.runs.Run.{Run}
-use Rattle.slab_model.specs.Runs.{AreSound, first_fit}
-use Rattle.slab_pages.specs.Places.{free_head, descriptor, slab_at, next_at, prev_at}
+use Rattle.slab_model.specs.Runs.{AreSound, first_fit, is_covered, is_within}
+use Rattle.slab_pages.specs.Places.{free_head, descriptor, slab_at, next_at}
 use Rattle.slab_pages.specs.Layout.{LaysFrom}
 use Rattle.slab_pages.specs.Steps.{LaysList}
-use Rattle.slab_pages.proofs.PlaceLemmas.{descriptor-word, descriptor-head}
+use Rattle.slab_pages.proofs.PlaceLemmas.{descriptor-head}
 use Rattle.slab_pages.proofs.GiveLemmas.{page_total-le, length-runs}
 
 -- the descriptor at `o` is the first of these runs, or the head where there is none
@@ -64,3 +64,50 @@ walk_meets count n step words o runs w ne = met w.rest w.stands w.sound w.fit w.
 -- the walk is over before the words are
 pub walk_short : (count n step : ℕ) (words : List ℕ) (o : ℕ) (runs : List Run) → LaysList count words runs → Walks count n step words o runs → step < length words
 walk_short count n step words o runs h w = omega (arith, w.counted, length-runs count runs h.sound, page_total-le count runs h.sound, h.room)
+
+-- ---- the walk that looks for a page
+
+-- after some steps these runs are left, and none before them has the page
+pub record Looks (count page step : ℕ) (words : List ℕ) (o : ℕ) (runs : List Run) : Type 0 where
+  pub rest : List Run
+  pub stands : StandsAt words o rest
+  pub sound : AreSound count rest
+  pub same : is_covered page rest ≡ is_covered page runs
+  pub counted : step + length rest ≡ length runs
+
+pub look_begins : (count page : ℕ) (words : List ℕ) (runs : List Run) → LaysList count words runs → Looks count page 0 words (next_at words free_head) runs
+look_begins count page words runs h = record { rest = runs; stands = stands_next words free_head runs h.linked; sound = h.sound; same = refl; counted = omega arith }
+
+pub look_ends : (count page step : ℕ) (words : List ℕ) (o : ℕ) (runs : List Run) → Looks count page step words o runs → o ≡ free_head → is_covered page runs ≡ false
+look_ends count page step words o runs w e = ended w.rest w.stands w.same where
+  ended : (rest : List Run) → StandsAt words o rest → is_covered page rest ≡ is_covered page runs → is_covered page runs ≡ false
+  ended [] stands same = sym same
+  ended (x ∷ xs) stands same = absurd (descriptor-head x.first (sym stands.0 ∙ e))
+
+-- elsewhere a run begins
+pub record Finds (count page step : ℕ) (words : List ℕ) (o : ℕ) (runs : List Run) : Type 0 where
+  pub first : ℕ
+  pub at : o ≡ descriptor first
+  pub low : first < count
+  pub inside : is_within page first (slab_at words o) ≡ true → is_covered page runs ≡ true
+  pub outside : is_within page first (slab_at words o) ≡ false → Looks count page (step + 1) words (next_at words o) runs
+
+pub look_finds : (count page step : ℕ) (words : List ℕ) (o : ℕ) (runs : List Run) → Looks count page step words o runs → o ≢ free_head → Finds count page step words o runs
+look_finds count page step words o runs w ne = met w.rest w.stands w.sound w.same w.counted where
+  met : (rest : List Run) → StandsAt words o rest → AreSound count rest → is_covered page rest ≡ is_covered page runs → step + length rest ≡ length runs → Finds count page step words o runs
+  met [] stands sound same counted = absurd (ne stands)
+  met (x ∷ xs) stands sound same counted = record {
+    first = x.first;
+    at = stands.0;
+    low = omega (arith, sound.0, sound.1);
+    inside = λ h. sym same ∙ here x xs (subst (λ (n : ℕ). is_within page x.first n ≡ true) stands.1 h);
+    outside = λ h. record { rest = xs; stands = stands.2; sound = sound.3; same = sym (there x xs (subst (λ (n : ℕ). is_within page x.first n ≡ false) stands.1 h)) ∙ same; counted = omega (arith, counted) };
+  } where
+    here : (x : Run) (xs : List Run) → is_within page x.first x.pages ≡ true → is_covered page (x ∷ xs) ≡ true
+    here x xs h = grind (arith, common_steps)
+
+    there : (x : Run) (xs : List Run) → is_within page x.first x.pages ≡ false → is_covered page (x ∷ xs) ≡ is_covered page xs
+    there x xs h = grind (arith, common_steps)
+
+pub look_short : (count page step : ℕ) (words : List ℕ) (o : ℕ) (runs : List Run) → LaysList count words runs → Looks count page step words o runs → step < length words
+look_short count page step words o runs h w = omega (arith, w.counted, length-runs count runs h.sound, page_total-le count runs h.sound, h.room)

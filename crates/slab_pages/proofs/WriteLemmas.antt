@@ -1,11 +1,10 @@
 -- What single writes to descriptors come to.
-use Rattle.std.proofs.Common.{ℕ, ◌≡◌, ◌≢◌, ◌⊎◌, ◌+◌, ◌*◌, ◌-◌, ◌/◌, ◌<◌, ◌≤◌, List, length, get_or, set, sym, ap, subst, ◌∙◌, refl, arith, inl, inr, get_or-set_same, get_or-set_other}
+use Rattle.std.proofs.Common.{ℕ, ◌≡◌, ◌≢◌, ◌+◌, ◌*◌, ◌-◌, ◌/◌, ◌<◌, ◌≤◌, List, length, get_or, set, sym, ap, subst, ◌∙◌, refl, arith, inl, inr, get_or-set_same, get_or-set_other}
 use Rattle.std.proofs.lemmas.List.{length-set}
-use Rattle.std.proofs.lemmas.Bool.{cases_lt, cases_eq}
+use Rattle.std.proofs.lemmas.Bool.{cases_eq}
 use Rattle.slab_model.specs.declared.runs.Run.{Run}
-use Rattle.slab_pages.specs.Places.{free_head, descriptor, slab_at, next_at, prev_at, HasWords, IsPlace, Links}
-use Rattle.slab_pages.specs.Layout.{HasTail}
-use Rattle.slab_pages.specs.Steps.{SameWords, SetsWords, FillsRun, IsBlank, BeginsRun}
+use Rattle.slab_pages.specs.Places.{free_head, descriptor, HasWords, IsPlace, Links}
+use Rattle.slab_pages.specs.Steps.{SetsWords, FillsRun, BeginsRun}
 use Rattle.slab_pages.proofs.PlaceLemmas.{descriptor-word, descriptor-other, places_apart, HasWords-kept, SetsWords-other}
 
 -- a word that isn't written stays

@@ -1,6 +1,6 @@
 -- What the steps of opening a zone leave in its words.
 use Rattle.std.specs.Prelude.{ℕ, ◌≡◌, ◌≢◌, ◌⊎◌, ◌+◌, ◌*◌, ◌%◌, ◌/◌, ◌<◌, ◌≤◌, Bool, true, ◌&&◌, nat_lt, List, [], ◌∷◌, length, slice_index, slice_set}
-use Rattle.slab_pages.specs.Places.{free_head, descriptor, HasWords}
+use Rattle.slab_pages.specs.Places.{free_head, HasWords}
 use Rattle.slab_pages.specs.SlabLayout.{LaysHeader, class_head}
 
 -- each entry is of a word below `n`

@@ -1,5 +1,5 @@
 -- How a whole slab is laid out in the words of a zone.
-use Rattle.std.specs.Prelude.{ℕ, ◌≡◌, ◌⊎◌, ◌+◌, ◌*◌, ◌-◌, ◌/◌, ◌%◌, ◌^◌, ◌<◌, ◌≤◌, ◌↔◌, true, List, [], ◌∷◌, slice_index, IsBitSet}
+use Rattle.std.specs.Prelude.{ℕ, ◌≡◌, ◌⊎◌, ◌+◌, ◌*◌, ◌/◌, ◌%◌, ◌^◌, ◌<◌, ◌≤◌, ◌↔◌, true, List, [], ◌∷◌, slice_index, IsBitSet}
 use Rattle.slab_model.specs.declared.stat.Stat.{Stat}
 use Rattle.slab_model.specs.declared.page.PageState.TheVariants.{First, Class}
 use Rattle.slab_model.specs.Geometry.{pages_of, start_of, page_offset, class_count, blocks_in_page, first_index, kind_of, Kind, small, exact, big}

@@ -1,7 +1,7 @@
 -- What the steps of taking and giving back a run leave in the words.
-use Rattle.std.specs.Prelude.{ℕ, ◌≡◌, ◌≢◌, ◌⊎◌, ◌+◌, ◌*◌, ◌-◌, ◌/◌, ◌<◌, ◌≤◌, Bool, true, false, nat_eq, List, [], ◌∷◌, length, slice_index, if◌then◌else◌}
+use Rattle.std.specs.Prelude.{ℕ, ◌≡◌, ◌⊎◌, ◌+◌, ◌*◌, ◌-◌, ◌/◌, ◌<◌, ◌≤◌, false, nat_eq, List, [], ◌∷◌, length, slice_index, if◌then◌else◌}
 use Rattle.slab_model.specs.declared.runs.Run.{Run}
-use Rattle.slab_model.specs.Runs.{IsApart, AreSound, pages_from, pages_before, take_run, give_run}
+use Rattle.slab_model.specs.Runs.{IsApart, AreSound, is_covered, pages_from, pages_before, take_run, give_run}
 use Rattle.slab_pages.specs.Places.{free_head, pfree, descriptor, slab_at, next_at, prev_at, HasWords, KeepsOthers}
 use Rattle.slab_pages.specs.Layout.{HasTail, LaysFrom, IsBusy, HasUsedRun}
 
@@ -113,3 +113,7 @@ pub record GivesRun (count : ℕ) (runs : List Run) (old new : List ℕ) (run : 
   pub laid : LaysList count new (give_run run runs)
   pub counted : slice_index new pfree ≡ slice_index old pfree + run.pages
   pub kept : KeepsOthers (give_run run runs) old new
+
+-- none of the pages from `first` up to `end` is in these runs
+abbrev pub IsClearOfFree : List Run → ℕ → ℕ → Type 0
+IsClearOfFree runs first end = (page : ℕ) → first ≤ page → page < end → is_covered page runs ≡ false

@@ -1,6 +1,7 @@
 //! Runs of free pages in the words of a zone, after `ngx_slab.c`.
 #![tactic(auto)]
 
+mod checks;
 mod descriptors;
 pub mod geometry;
 mod opening;
@@ -9,3 +10,6 @@ mod runs;
 
 pub use geometry::{Geometry, TooSmall};
 pub use pages::{Page, Pages};
+
+#[cfg(test)]
+mod tests;

@@ -1,4 +1,4 @@
-ghost use Rattle.std.specs.Prelude.{◌≡◌, ◌+◌, ◌<◌, ◌/◌, length, false, List, Some, None, MatchOption, IfSome, IfNone, IfOk, slice_index, slice_set};
+ghost use Rattle.std.specs.Prelude.{◌≡◌, ◌+◌, ◌<◌, ◌/◌, length, false, List, Some, None, MatchOption, IfSome, IfNone, IfOk, IsTrue, slice_index, slice_set};
 ghost use Rattle.slab_model.specs.declared.runs.Run.{Run};
 ghost use Rattle.slab_model.specs.Geometry.{pages_of};
 ghost use Rattle.slab_model.specs.Runs.{first_fit, give_run, page_total, take_run};
@@ -6,6 +6,7 @@ ghost use Rattle.slab_pages.specs.Places.{Image, KeepsOthers, is_list_word, is_r
 ghost use Rattle.slab_pages.specs.Layout.{HasUsedRun, IsUsed, LaysRuns};
 ghost use Rattle.slab_pages.specs.SlabLayout.{IsOpened};
 
+use crate::checks::is_used;
 use crate::geometry::Geometry;
 use crate::opening::prepare;
 use crate::runs::{PFREE, add_run, find_fit, give_pages, take_pages};
@@ -73,6 +74,13 @@ impl Pages {
         self.region.load(PFREE)
     }
 
+    /// The number of the zone's words.
+    pub fn word_count(&self) -> u64
+        ensures { result ≡ length self.now.words }
+    {
+        self.region.len()
+    }
+
     /// Word `w` of the zone.
     pub fn word(&self, w: u64) -> u64
         requires { w < length self.now.words }
@@ -113,6 +121,25 @@ impl Pages {
                 Some(Page { number: first })
             }
         }
+    }
+
+    /// Whether the `n` pages from `p` on can be given back: there are such pages, none of them is free, and the
+    /// descriptors beside them are those of a free run or of pages that aren't free.
+    ///
+    /// It walks the list of free runs for each page.
+    pub fn can_put(&self, p: Page, n: u64) -> bool
+        ensures yes { let run : Run = record { first = p.number; pages = n } in
+            IsTrue result →
+            ((runs : List Run) × LaysRuns self.now runs × IsUsed (pages_of self.now.bytes) self.now.words runs run) }
+        ensures whenever { let run : Run = record { first = p.number; pages = n } in
+            (runs : List Run) → LaysRuns self.now runs → IsUsed (pages_of self.now.bytes) self.now.words runs run →
+            IsTrue result }
+    {
+        let pages = self.geometry.pages;
+        if n == 0 || p.number >= pages || n > pages - p.number {
+            return false;
+        }
+        is_used(&self.region, pages, p.number, n)
     }
 
     /// Gives back the used run of `n` pages from `p` on. It is merged with the free run right after it and with

@@ -1,4 +1,4 @@
-use Rattle.std.proofs.Common.{ℕ, ◌≡◌, sym, ap, arith, ◌∙◌}
+use Rattle.std.proofs.Common.{ap, arith, ◌∙◌}
 use Rattle.slab_pages.specs.Places.{descriptor}
 use Rattle.slab_pages.specs.Opening.{put_all}
 use Rattle.slab_pages.proofs.PagesLemmas.{pages-room}

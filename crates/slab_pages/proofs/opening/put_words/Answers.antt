@@ -1,4 +1,4 @@
-use Rattle.std.proofs.Common.{ℕ, ◌≡◌, ◌+◌, suc, List, take, set, get_or, length, sym, ap, subst, arith, add-one, ◌∙◌}
+use Rattle.std.proofs.Common.{ℕ, ◌≡◌, ◌+◌, suc, take, set, get_or, length, sym, ap, subst, arith, ◌∙◌}
 use Rattle.slab_pages.specs.Opening.{put_all}
 use Rattle.slab_pages.proofs.OpeningLemmas.{length-put, below-at, put-next}
 use Rattle.slab_pages.proofs.opening.put_words.Goals as goal

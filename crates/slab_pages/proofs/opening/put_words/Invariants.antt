@@ -1,4 +1,4 @@
-use Rattle.std.proofs.Common.{◌≡◌, take, length}
+use Rattle.std.proofs.Common.{◌≡◌, take}
 use Rattle.slab_pages.specs.Opening.{put_all}
 use Rattle.slab_pages.proofs.opening.put_words.Given as goal
 

@@ -1,5 +1,4 @@
-use Rattle.std.proofs.Common.{ℕ, ◌≡◌, ◌+◌, ◌/◌, sym, subst, arith, refl}
-use Rattle.slab_model.specs.declared.runs.Run.{Run}
+use Rattle.std.proofs.Common.{ℕ, sym, subst, arith, refl}
 use Rattle.slab_pages.specs.Places.{IsPlace}
 use Rattle.slab_pages.proofs.PlaceLemmas.{descriptor-word}
 use Rattle.slab_pages.proofs.UnlinkLemmas.{node_place}

@@ -1,6 +1,6 @@
-use Rattle.std.proofs.Common.{ℕ, ◌≡◌, ◌+◌, ◌-◌, ◌/◌, sym, ap, subst, arith, ◌∙◌}
+use Rattle.std.proofs.Common.{◌≡◌, ◌+◌, ◌-◌, ap, arith, ◌∙◌}
 use Rattle.slab_model.specs.Runs.{pages_from}
-use Rattle.slab_pages.specs.Places.{descriptor, slab_at, free_head}
+use Rattle.slab_pages.specs.Places.{slab_at, free_head}
 use Rattle.slab_pages.proofs.PlaceLemmas.{descriptor-word}
 use Rattle.slab_pages.proofs.UnlinkLemmas.{run_at, detached}
 use Rattle.slab_pages.proofs.EdgeLemmas.{listed_in, sets_at}

@@ -1,4 +1,4 @@
-use Rattle.std.proofs.Common.{ℕ, ◌≡◌, ◌+◌, ◌*◌, true, false, sym, arith, ◌∙◌}
+use Rattle.std.proofs.Common.{◌≡◌, true, false, sym, arith, ◌∙◌}
 use Rattle.slab_pages.proofs.EdgeLemmas.{after_within, after_none, after_end, after_not_first, after_first}
 use Rattle.slab_pages.proofs.runs.detach_after.Goals as goal
 

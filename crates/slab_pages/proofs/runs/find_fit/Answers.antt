@@ -1,4 +1,4 @@
-use Rattle.std.proofs.Common.{ℕ, ◌≡◌, ◌+◌, ◌/◌, sym, ap, subst, arith, ◌∙◌, Some}
+use Rattle.std.proofs.Common.{ℕ, ◌+◌, sym, ap, subst, arith, ◌∙◌, Some}
 use Rattle.slab_pages.proofs.PlaceLemmas.{descriptor-word}
 use Rattle.slab_pages.proofs.WalkLemmas.{Walks, walk_begins, walk_ends, walk_meets, walk_short}
 use Rattle.slab_pages.proofs.runs.find_fit.Goals as goal

@@ -1,4 +1,4 @@
-use Rattle.std.proofs.Common.{ℕ, ◌+◌, ◌/◌, arith}
+use Rattle.std.proofs.Common.{arith}
 use Rattle.slab_pages.proofs.PlaceLemmas.{descriptor-word}
 use Rattle.slab_pages.proofs.runs.is_first.Goals as goal
 

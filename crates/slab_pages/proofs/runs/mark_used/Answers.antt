@@ -1,5 +1,4 @@
-use Rattle.std.proofs.Common.{ℕ, ◌≡◌, ◌+◌, ◌/◌, arith}
-use Rattle.slab_pages.specs.Places.{descriptor}
+use Rattle.std.proofs.Common.{arith}
 use Rattle.slab_pages.proofs.PlaceLemmas.{descriptor-word}
 use Rattle.slab_pages.proofs.EdgeLemmas.{marked, sets_at}
 use Rattle.slab_pages.proofs.runs.mark_used.Goals as goal

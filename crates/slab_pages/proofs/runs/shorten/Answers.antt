@@ -1,6 +1,5 @@
-use Rattle.std.proofs.Common.{ℕ, ◌≡◌, ◌+◌, ◌-◌, ◌/◌, sym, ap, subst, arith, inr, ◌∙◌}
-use Rattle.slab_model.specs.declared.runs.Run.{Run}
-use Rattle.slab_pages.specs.Places.{descriptor, next_at, prev_at, IsPlace}
+use Rattle.std.proofs.Common.{ℕ, ◌+◌, ◌-◌, sym, ap, subst, arith, inr, ◌∙◌}
+use Rattle.slab_pages.specs.Places.{next_at, prev_at, IsPlace}
 use Rattle.slab_pages.specs.Steps.{BeginsRun}
 use Rattle.slab_pages.proofs.PlaceLemmas.{descriptor-word}
 use Rattle.slab_pages.proofs.UnlinkLemmas.{node_place, node_before, node_after}

@@ -1,5 +1,5 @@
-use Rattle.std.proofs.Common.{ℕ, ◌≡◌, ◌+◌, ◌-◌, ◌*◌, ◌≤◌, get_or, sym, arith, inl, ◌∙◌}
-use Rattle.slab_model.specs.Runs.{page_total, pages_from}
+use Rattle.std.proofs.Common.{◌≡◌, ◌-◌, ◌≤◌, get_or, arith, inl, ◌∙◌}
+use Rattle.slab_model.specs.Runs.{page_total}
 use Rattle.slab_pages.specs.Places.{pfree}
 use Rattle.slab_pages.proofs.EdgeLemmas.{listed_in}
 use Rattle.slab_pages.proofs.CutLemmas.{first_fit-from}

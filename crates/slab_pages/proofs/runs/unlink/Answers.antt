@@ -1,5 +1,5 @@
-use Rattle.std.proofs.Common.{ℕ, ◌≡◌, ◌+◌, ◌/◌, sym, ap, subst, arith, ◌∙◌}
-use Rattle.slab_pages.specs.Places.{descriptor, next_at, prev_at, IsPlace}
+use Rattle.std.proofs.Common.{ℕ, sym, ap, subst, arith, ◌∙◌}
+use Rattle.slab_pages.specs.Places.{next_at, prev_at, IsPlace}
 use Rattle.slab_pages.proofs.UnlinkLemmas.{node_place, node_before, node_after, unlinked}
 use Rattle.slab_pages.proofs.EdgeLemmas.{listed_in, node_room, links_at}
 use Rattle.slab_pages.proofs.runs.unlink.Goals as goal

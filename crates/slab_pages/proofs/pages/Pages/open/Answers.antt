@@ -1,4 +1,4 @@
-use Rattle.std.proofs.Common.{ℕ, ◌≡◌, List, [], ◌∷◌, set, sym, ap, subst, arith, ◌∙◌}
+use Rattle.std.proofs.Common.{ℕ, [], ◌∷◌, set, sym, ap, subst, arith, ◌∙◌}
 use Rattle.slab_model.specs.declared.runs.Run.{Run}
 use Rattle.slab_model.specs.Geometry.{pages_of}
 use Rattle.slab_pages.specs.Places.{pfree}

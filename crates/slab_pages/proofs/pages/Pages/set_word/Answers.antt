@@ -1,4 +1,4 @@
-use Rattle.std.proofs.Common.{ℕ, ◌≡◌, List, sym, subst}
+use Rattle.std.proofs.Common.{List, sym, subst}
 use Rattle.slab_model.specs.declared.runs.Run.{Run}
 use Rattle.slab_pages.specs.Places.{Image}
 use Rattle.slab_pages.specs.Layout.{LaysRuns}

@@ -1,7 +1,7 @@
-use Rattle.std.proofs.Common.{ℕ, ◌≡◌, List, sym, ap, subst, ◌∙◌, Some, None}
+use Rattle.std.proofs.Common.{List, sym, subst}
 use Rattle.slab_model.specs.declared.runs.Run.{Run}
 use Rattle.slab_model.specs.Geometry.{pages_of}
-use Rattle.slab_model.specs.Runs.{first_fit, take_run}
+use Rattle.slab_model.specs.Runs.{take_run}
 use Rattle.slab_model.proofs.RunLemmas.{take_run-none}
 use Rattle.slab_pages.specs.Places.{Image, KeepsOthers}
 use Rattle.slab_pages.specs.Layout.{LaysRuns}

@@ -1,0 +1,12 @@
+use Rattle.std.proofs.Common.{arith}
+use Rattle.slab_pages.proofs.PlaceLemmas.{descriptor-word}
+use Rattle.slab_pages.proofs.checks.is_busy.Goals as goal
+
+pub prev-requires : goal.prev-requires
+prev-requires c = omega (arith, c.offset_of-o.ensures, descriptor-word c.args.page)
+
+pub next-requires : goal.next-requires
+next-requires c = omega (arith, c.offset_of-o.ensures, descriptor-word c.args.page)
+
+pub slab-requires : goal.slab-requires
+slab-requires c = omega (arith, c.offset_of-o.ensures, descriptor-word c.args.page)

@@ -1,0 +1,112 @@
+ghost use Rattle.std.specs.Prelude.{◌≡◌, ℕ, ◌+◌, ◌*◌, ◌<◌, ◌≤◌, ◌↔◌, length, false, List, IsTrue};
+ghost use Rattle.slab_model.specs.declared.runs.Run.{Run};
+ghost use Rattle.slab_model.specs.Runs.{is_covered, is_within};
+ghost use Rattle.slab_pages.specs.Layout.{IsBusy, IsUsed};
+ghost use Rattle.slab_pages.specs.Steps.{IsClearOfFree, LaysList};
+
+use crate::descriptors::{FREE_HEAD, next, offset_of, page_of, prev, slab};
+use zone_region::Region;
+
+// The page is one of the `pages` pages from `first` on.
+fn is_in(page: u64, first: u64, pages: u64) -> bool
+    ensures { result ≡ is_within page first pages }
+{
+    first <= page && page - first < pages
+}
+
+// The page is free.
+pub(crate) fn is_free(region: &Region, page: u64) -> bool
+    requires { ((count : ℕ) × (runs : List Run) × LaysList count region.now runs) }
+    ensures { (count : ℕ) (runs : List Run) → LaysList count region.now runs → result ≡ is_covered page runs }
+{
+    let mut o = next(region, FREE_HEAD);
+    // There are fewer runs than words.
+    for step in 0..region.len() {
+        if o == FREE_HEAD {
+            return false;
+        }
+        if is_in(page, page_of(o), slab(region, o)) {
+            return true;
+        }
+        o = next(region, o);
+    }
+    unreachable!()
+}
+
+// The page's descriptor is that of a page that isn't free.
+fn is_busy(region: &Region, page: u64) -> bool
+    requires small { page < 16384 }
+    requires room { 88 + 3 * page + 2 < length region.now }
+    ensures { IsTrue result ↔ IsBusy region.now page }
+{
+    let o = offset_of(page);
+    prev(region, o) % 4 != 0 || (next(region, o) == 0 && slab(region, o) != 0)
+}
+
+// None of the `n` pages from `first` on is free.
+pub(crate) fn is_apart(region: &Region, first: u64, n: u64) -> bool
+    requires small { first + n ≤ 16384 }
+    requires laid { ((count : ℕ) × (runs : List Run) × LaysList count region.now runs) }
+    ensures { (count : ℕ) (runs : List Run) → LaysList count region.now runs →
+        (IsTrue result ↔ IsClearOfFree runs first (first + n)) }
+{
+    for page in first..first + n {
+        if is_free(region, page) {
+            return false;
+        }
+    }
+    true
+}
+
+// The page is free, or its descriptor is that of a page that isn't.
+pub(crate) fn is_settled(region: &Region, page: u64) -> bool
+    requires { ((count : ℕ) × (runs : List Run) × LaysList count region.now runs × (page < count)) }
+    ensures { (count : ℕ) (runs : List Run) → LaysList count region.now runs →
+        (IsTrue result ↔ (is_covered page runs ≡ false → IsBusy region.now page)) }
+{
+    if is_free(region, page) {
+        return true;
+    }
+    is_busy(region, page)
+}
+
+// The page before this one, if there is one, is settled.
+fn is_settled_before(region: &Region, first: u64) -> bool
+    requires { ((count : ℕ) × (runs : List Run) × LaysList count region.now runs × (first ≤ count)) }
+    ensures { (count : ℕ) (runs : List Run) → LaysList count region.now runs →
+        (IsTrue result ↔ ((page : ℕ) → page + 1 ≡ first → is_covered page runs ≡ false → IsBusy region.now page)) }
+{
+    if first == 0 {
+        return true;
+    }
+    is_settled(region, first - 1)
+}
+
+// This page, if the zone has it, is settled.
+fn is_settled_after(region: &Region, count: u64, page: u64) -> bool
+    requires { ((runs : List Run) × LaysList count region.now runs × (page ≤ count)) }
+    ensures { (runs : List Run) → LaysList count region.now runs →
+        (IsTrue result ↔ (page < count → is_covered page runs ≡ false → IsBusy region.now page)) }
+{
+    if page == count {
+        return true;
+    }
+    is_settled(region, page)
+}
+
+// The `n` pages from `first` on can come back to a zone of `count` pages.
+pub(crate) fn is_used(region: &Region, count: u64, first: u64, n: u64) -> bool
+    requires some { 0 < n }
+    requires within { first + n ≤ count }
+    requires laid { ((runs : List Run) × LaysList count region.now runs) }
+    ensures { let run : Run = record { first = first; pages = n } in
+        (runs : List Run) → LaysList count region.now runs → (IsTrue result ↔ IsUsed count region.now runs run) }
+{
+    if !is_apart(region, first, n) {
+        return false;
+    }
+    if !is_settled_before(region, first) {
+        return false;
+    }
+    is_settled_after(region, count, first + n)
+}
