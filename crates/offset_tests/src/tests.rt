@@ -1,0 +1,313 @@
+ghost use Rattle.std.specs.Prelude.{◌≡◌, ◌<◌};
+ghost use Rattle.zone_region.specs.Entries.{words_in};
+ghost use Rattle.offset_tree.specs.Keys.{IsForm};
+ghost use Rattle.offset_tests.specs.Grid.{HasTree, small_tree};
+
+use crate::grid::{key_of, laid_out, place, toggle};
+use crate::line::exercise;
+use crate::walk::{Part, peek, walk};
+use offset_queue::queue::Queue;
+use offset_tree::find::find;
+use offset_tree::tree::{Form, Tree};
+use std::alloc::Global;
+use std::marker::Brand;
+use std::process::Abort;
+use std::sync::ledger::{Blank, Ledger};
+use std::test::Fail;
+use zone_region::blocks::Block;
+use zone_region::counted::CountedBlocks;
+use zone_region::memory::MemBlocks;
+use zone_region::steps::Steps;
+
+/// A tree of request nodes.
+fn request_tree() -> Tree
+    ensures form { IsForm result.form }
+    ensures context { result.context.at ≡ 4096 }
+    ensures value { result ≡ small_tree }
+{
+    Tree {
+        context: Block { at: 4096 },
+        form: Form {
+            len_at: 34,
+            len_bytes: 2,
+            key_at: 80,
+        },
+    }
+}
+
+/// A tree of connection nodes, whose keys begin inside a word.
+fn connection_tree() -> Tree
+    ensures form { IsForm result.form }
+    ensures context { result.context.at ≡ 4096 }
+{
+    Tree {
+        context: Block { at: 4096 },
+        form: Form {
+            len_at: 33,
+            len_bytes: 1,
+            key_at: 36,
+        },
+    }
+}
+
+/// Looks for key `k` among a thousand, and counts the reads from outside.
+fn seek<L: Ledger, R: Abort>(
+    rt: &R,
+    alloc: Global,
+    blocks: &CountedBlocks,
+    t: &Tree,
+    k: u64,
+    inside: bool,
+    steps: &mut Steps<L>,
+) -> Result<(), Fail>
+    requires form { IsForm t.now.form }
+    requires there { HasTree (words_in blocks.now.blocks.entries.items) t.now 1000 }
+    requires range { k < 1000 }
+{
+    let key = key_of(alloc, k)?;
+    let before = blocks.reads();
+    let found = find(blocks, t, (k % 5) as u32, &key, steps);
+    let reads = blocks.reads().wrapping_sub(before);
+    let want = if inside { Some(place(k)) } else { None };
+    assert_eq!(rt; found, want, "at {k}");
+    assert!(rt; reads <= 105, "at {k}");
+    Ok(())
+}
+
+/// A thousand keys are put in and found; the even ones are taken out and are gone.
+fn thousand<L: Ledger, R: Abort>(rt: &R, alloc: Global, t: &Tree, blank: Blank) -> Result<(), Fail>
+    requires name { blank.name ≡ L.name }
+    requires parts { blank.parts ≡ L.parts }
+    requires some { 0 < L.parts }
+    requires form { IsForm t.now.form }
+    requires context { t.now.context.at ≡ 4096 }
+{
+    let mut steps = Steps::<L>::new(blank);
+    let mut blocks = CountedBlocks::new(laid_out(alloc, t, 1000)?);
+    for added in 0..1000u64 {
+        let key = key_of(alloc, added)?;
+        assert!(rt; toggle(&mut blocks, t, 1000, added, &key, &mut steps));
+    }
+    for k in 0..1000u64 {
+        seek(rt, alloc, &blocks, t, k, true, &mut steps)?;
+    }
+    for half in 0..500u64 {
+        let key = key_of(alloc, 2 * half)?;
+        assert!(rt; !toggle(&mut blocks, t, 1000, 2 * half, &key, &mut steps));
+    }
+    for left in 0..1000u64 {
+        seek(rt, alloc, &blocks, t, left, left % 2 == 1, &mut steps)?;
+    }
+    Ok(())
+}
+
+/// The tree is red-black, and its blocks are those that are said to be there, by hash and then by key.
+fn compare<R: Abort>(
+    rt: &R,
+    alloc: Global,
+    blocks: &MemBlocks,
+    inside: &[bool],
+) -> Result<(), Fail> {
+    let mut order = Vec::new(alloc);
+    let whole = Part {
+        at: peek(blocks, 4096, 0),
+        parent: 0,
+        under_red: true,
+    };
+    let height = walk(blocks, 4120, whole, 64, &mut order)?;
+    assert!(rt; height.is_some());
+    let mut want = Vec::new(alloc);
+    for hash in 0..5u64 {
+        for k in 0..64u64 {
+            if k % 5 == hash && inside.get(k as usize) == Some(&true) {
+                want.push(8192 + 128 * k)?;
+            }
+        }
+    }
+    assert!(rt; order.as_slice() == want.as_slice());
+    Ok(())
+}
+
+/// Two thousand random changes of a tree of at most 64 blocks, of which many have one hash.
+fn random_run<L: Ledger, R: Abort>(
+    rt: &R,
+    alloc: Global,
+    t: &Tree,
+    blank: Blank,
+) -> Result<(), Fail>
+    requires name { blank.name ≡ L.name }
+    requires parts { blank.parts ≡ L.parts }
+    requires some { 0 < L.parts }
+    requires form { IsForm t.now.form }
+    requires context { t.now.context.at ≡ 4096 }
+{
+    let mut steps = Steps::<L>::new(blank);
+    let mut blocks = laid_out(alloc, t, 64)?;
+    let mut inside = vec![in alloc; false; 64]?;
+    let mut seed = 1u64;
+    for step in 0..2000u64 {
+        seed = seed
+            .wrapping_mul(6364136223846793005)
+            .wrapping_add(1442695040888963407);
+        let k = seed / 8589934592 % 64;
+        let key = key_of(alloc, k)?;
+        let now = toggle(&mut blocks, t, 64, k, &key, &mut steps);
+        if let Some(was) = inside.get_mut(k as usize) {
+            assert!(rt; *was != now);
+            *was = now;
+        }
+        compare(rt, alloc, &blocks, inside.as_slice())?;
+    }
+    Ok(())
+}
+
+/// A block, a word of it and its value.
+type Wanted = (u64, usize, u64);
+
+/// No blocks: the root is the sentinel, at 4096 + 24, and the sentinel's words are 0.
+const EMPTY: [Wanted; 5] = [
+    (4096, 0, 4120),
+    (4096, 1, 4120),
+    (4096, 3, 0),
+    (4096, 5, 0),
+    (4096, 7, 0),
+];
+
+/// Block 0 alone: black, under parent 0, with the sentinel on both sides.
+const ROOT: [Wanted; 5] = [
+    (4096, 0, 8192),
+    (8192, 1, 4120),
+    (8192, 2, 4120),
+    (8192, 3, 0),
+    (8192, 4, 262144),
+];
+
+/// Block 1, red, on the right of block 0.
+const RED_CHILD: [Wanted; 4] = [
+    (4096, 0, 8192),
+    (8192, 2, 8320),
+    (8320, 3, 8192),
+    (8320, 4, 262145),
+];
+
+/// Block 1, black, above the red blocks 0 and 2, after a turn to the left.
+const TURNED: [Wanted; 13] = [
+    (4096, 0, 8320),
+    (8320, 1, 8192),
+    (8320, 2, 8448),
+    (8320, 3, 0),
+    (8320, 4, 262144),
+    (8192, 1, 4120),
+    (8192, 2, 4120),
+    (8192, 3, 8320),
+    (8192, 4, 262145),
+    (8448, 1, 4120),
+    (8448, 2, 4120),
+    (8448, 3, 8320),
+    (8448, 4, 262145),
+];
+
+/// Block 2 in the place of block 1, which keeps its hash and its key.
+const REPLACED: [Wanted; 9] = [
+    (4096, 0, 8448),
+    (8448, 1, 8192),
+    (8448, 2, 4120),
+    (8448, 3, 0),
+    (8448, 4, 262144),
+    (8192, 3, 8448),
+    (8192, 4, 262145),
+    (8320, 0, 1),
+    (8320, 10, 16777216),
+];
+
+/// Block 2 alone.
+const ROOT_ALONE: [Wanted; 5] = [
+    (4096, 0, 8448),
+    (8448, 1, 4120),
+    (8448, 2, 4120),
+    (8448, 3, 0),
+    (8448, 4, 262144),
+];
+
+fn compare_words<R: Abort>(rt: &R, blocks: &MemBlocks, wanted: &[Wanted]) {
+    for (at, i, value) in wanted {
+        assert_eq!(rt; peek(blocks, *at, *i), *value, "word {i} at {at}");
+    }
+}
+
+/// Puts block `k` in or takes it out, and looks at words.
+fn change<L: Ledger, R: Abort>(
+    rt: &R,
+    alloc: Global,
+    blocks: &mut MemBlocks,
+    k: u64,
+    wanted: &[Wanted],
+    steps: &mut Steps<L>,
+) -> Result<(), Fail>
+    requires there { HasTree (words_in blocks.old.entries.items) small_tree 3 }
+    requires range { k < 3 }
+    ensures { HasTree (words_in blocks.new.entries.items) small_tree 3 }
+{
+    let key = key_of(alloc, k)?;
+    toggle(blocks, &request_tree(), 3, k, &key, steps);
+    compare_words(rt, blocks, wanted);
+    Ok(())
+}
+
+/// Three blocks put in by rising keys, the middle one taken out, and then the others: words worked out by hand.
+fn three_blocks<L: Ledger, R: Abort>(rt: &R, alloc: Global, blank: Blank) -> Result<(), Fail>
+    requires name { blank.name ≡ L.name }
+    requires parts { blank.parts ≡ L.parts }
+    requires some { 0 < L.parts }
+{
+    let mut steps = Steps::<L>::new(blank);
+    let mut blocks = laid_out(alloc, &request_tree(), 3)?;
+    compare_words(rt, &blocks, EMPTY.as_slice());
+    change(rt, alloc, &mut blocks, 0, ROOT.as_slice(), &mut steps)?;
+    change(rt, alloc, &mut blocks, 1, RED_CHILD.as_slice(), &mut steps)?;
+    change(rt, alloc, &mut blocks, 2, TURNED.as_slice(), &mut steps)?;
+    change(rt, alloc, &mut blocks, 1, REPLACED.as_slice(), &mut steps)?;
+    change(rt, alloc, &mut blocks, 0, ROOT_ALONE.as_slice(), &mut steps)?;
+    change(rt, alloc, &mut blocks, 2, EMPTY.as_slice(), &mut steps)
+}
+
+#[test]
+fn small_trees(rt: HostRuntime) -> Result<(), Fail> {
+    three_blocks::<Brand, HostRuntime>(&rt, rt.alloc(), Blank::new(1))
+}
+
+#[test]
+fn queue_of_three(rt: HostRuntime) -> Result<(), Fail> {
+    let t = request_tree();
+    let mut blocks = laid_out(rt.alloc(), &t, 3)?;
+    let q = Queue {
+        head: t.context,
+        at: 8,
+    };
+    let seen = exercise(&mut blocks, &q);
+    let wanted = [0, 8192, 8320, 8320, 8320, 0, 8448];
+    for (found, want) in seen.iter().zip(wanted.iter()) {
+        assert_eq!(rt; found.map_or(0, |b| b.at), *want);
+    }
+    Ok(())
+}
+
+#[test]
+fn rows_of_request_nodes(rt: HostRuntime) -> Result<(), Fail> {
+    thousand::<Brand, HostRuntime>(&rt, rt.alloc(), &request_tree(), Blank::new(1))
+}
+
+#[test]
+fn rows_of_connection_nodes(rt: HostRuntime) -> Result<(), Fail> {
+    thousand::<Brand, HostRuntime>(&rt, rt.alloc(), &connection_tree(), Blank::new(1))
+}
+
+#[test]
+fn random_request_nodes(rt: HostRuntime) -> Result<(), Fail> {
+    random_run::<Brand, HostRuntime>(&rt, rt.alloc(), &request_tree(), Blank::new(1))
+}
+
+#[test]
+fn random_connection_nodes(rt: HostRuntime) -> Result<(), Fail> {
+    random_run::<Brand, HostRuntime>(&rt, rt.alloc(), &connection_tree(), Blank::new(1))
+}
