@@ -1,17 +1,12 @@
 -- The causes of the statuses.
-use Rattle.std.proofs.Common.{ℕ, ◌≡◌, ◌≢◌, ◌⊎◌, Bool, true, false, cond, List, Option, Some, None, Result, Ok, Err, arith, ap, sym, subst, ◌∙◌, refl, inl, inr}
+use Rattle.std.proofs.Common.{ℕ, ◌≡◌, ◌⊎◌, List, Option, Some, None, sym, subst, refl, inl, inr}
 use Rattle.std.specs.Prelude.{codes}
 use Rattle.std.specs.Io.KnownBytes.{Keeps}
-use Rattle.zone_outside.specs.Faults.{Rose}
 use Rattle.zonereplay.specs.declared.stop.Stop.{Stop}
 use Rattle.zonereplay.specs.declared.stop.Stop.TheVariants.{ReadFault, TooLong, Log, NoMemory}
-use Rattle.zonereplay.specs.Words.{OneJob}
-use Rattle.zonereplay.specs.Keys.{Fault, keys_of}
-use Rattle.zonereplay.specs.declared.keys.KeyLine.{KeyLine}
-use Rattle.zonereplay.specs.Plan.{Plan, End, Ends, Reaches, log_fault, usage, one_plan, one_run}
+use Rattle.zonereplay.specs.Plan.{Plan, Ends, Reaches, log_fault, usage}
 use Rattle.zonereplay.specs.Plan.Plan.{refuses}
-use Rattle.zonereplay.specs.Plan.End.{refused, written}
-use Rattle.zonereplay.specs.Answers as answers
+use Rattle.zonereplay.specs.Plan.End.{refused}
 use Rattle.zonereplay.specs.Answers.{Taken, Devices, Told, TakesNone, Due, Refused, ErrFault, WantOfMemory, Answers, IsFree, IsComplete}
 use Rattle.zonereplay.specs.Answers.Answers.{done, told, out_failed, err_failed, no_memory}
 use Rattle.zonereplay.specs.Stops.{StopsBy, StopTold}
@@ -58,27 +53,3 @@ complete plan before after status (told fault) free = absurd (none_due plan befo
 complete plan before after status (out_failed is fault) free = absurd (free.wrote fault.out.rose)
 complete plan before after status (err_failed is fault) free = absurd (none_due plan before after fault.status fault.line free fault.due)
 complete plan before after status (no_memory is want) free = inr is
-
--- ---- `one` never ends in a refusal of the words
-
-run_refuses : (job : OneJob) (contents : List ℕ → Option (List ℕ)) (read : Result (List KeyLine) Fault) (status : ℕ) (line : List ℕ) → Ends contents (one_run job read) (refused status line) → status ≢ 1
-run_refuses job contents (Ok keys) status line ends one = cc
-run_refuses job contents (Err fault) status line ends one = let same : status ≡ 3 = cc in omega arith
-
-limit_refuses : (next : Plan) (contents : List ℕ → Option (List ℕ)) (status : ℕ) (line : List ℕ) (b : Bool) → (Ends contents next (refused status line) → status ≢ 1) → Ends contents (cond b (refuses 6 (codes "too long\n")) next) (refused status line) → status ≢ 1
-limit_refuses next contents status line true later ends one = let same : status ≡ 6 = cc in omega arith
-limit_refuses next contents status line false later ends one = later ends one
-
-one_refuses : (job : OneJob) (contents : List ℕ → Option (List ℕ)) (status : ℕ) (line : List ℕ) → Ends contents (one_plan job) (refused status line) → status ≢ 1
-one_refuses job contents status line (text, tells, ends) one = limit_refuses (one_run job (keys_of text)) contents status line _ (run_refuses job contents (keys_of text) status line) ends one
-
-one_due : (job : OneJob) (before after : Devices) (status : ℕ) (line : List ℕ) → Due (one_plan job) before after status line → status ≢ 1
-one_due job before after status line (inl ends) one = one_refuses job before.contents status line ends one
-one_due job before after status line (inr (is, same, fault)) one = omega arith
-
-pub one_not_usage : (job : OneJob) (before after : Devices) (status : ℕ) → Answers (one_plan job) before after status → status ≢ 1
-one_not_usage job before after status (done is all) one = omega arith
-one_not_usage job before after status (told fault) one = one_due job before after status fault.line fault.due one
-one_not_usage job before after status (out_failed is fault) one = omega arith
-one_not_usage job before after status (err_failed is fault) one = omega arith
-one_not_usage job before after status (no_memory is want) one = omega arith
