@@ -1,3 +1,4 @@
+pub mod Fitting
 pub mod Places
 pub mod Printed
 pub mod Trees
