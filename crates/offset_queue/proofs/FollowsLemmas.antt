@@ -1,7 +1,9 @@
 -- Chains of links under one more or one less.
 use Rattle.std.proofs.Common.{ℕ, ◌≡◌, ◌≢◌, ◌⊎◌, List, [], ◌∷◌, ◌++◌, reverse, inl, inr, sym, ap, subst, ◌∙◌, refl, append_assoc}
 use Rattle.std.proofs.lemmas.List.{reverse-append, reverse-reverse, append-nil}
-use Rattle.offset_queue.specs.Follows.{In, IsDistinct, Follows}
+use Rattle.zone_region.specs.Members.{In, IsDistinct}
+use Rattle.zone_region.proofs.MembersLemmas.{In-append_left, In-append_right, In-append_cases, IsDistinct-split, IsDistinct-join}
+use Rattle.offset_queue.specs.Follows.{Follows}
 
 -- the first element, or `e` where there is none
 abbrev pub first_of : List ℕ → ℕ → ℕ
@@ -13,49 +15,9 @@ abbrev pub last_of : ℕ → List ℕ → ℕ
 last_of p [] = p
 last_of p (x ∷ xs) = last_of x xs
 
-pub In-append_left : (a : ℕ) (xs ys : List ℕ) → In a xs → In a (xs ++ ys)
-In-append_left a [] ys h = absurd h
-In-append_left a (x ∷ xs) ys h = elim h [ inl e ↦ inl e | inr t ↦ inr (In-append_left a xs ys t) ]
-
-pub In-append_right : (a : ℕ) (xs ys : List ℕ) → In a ys → In a (xs ++ ys)
-In-append_right a [] ys h = h
-In-append_right a (x ∷ xs) ys h = inr (In-append_right a xs ys h)
-
-pub In-append_cases : (a : ℕ) (xs ys : List ℕ) → In a (xs ++ ys) → In a xs ⊎ In a ys
-In-append_cases a [] ys h = inr h
-In-append_cases a (x ∷ xs) ys h = elim h [
-  | inl e ↦ inl (inl e)
-  | inr t ↦ elim (In-append_cases a xs ys t) [ inl l ↦ inl (inr l) | inr r ↦ inr r ]
-]
-
 pub In-last_of : (p : ℕ) (xs : List ℕ) → In (last_of p xs) (p ∷ xs)
 In-last_of p [] = inl refl
 In-last_of p (x ∷ xs) = inr (In-last_of x xs)
-
--- a member splits the list
-pub In-split : (a : ℕ) (xs : List ℕ) → In a xs → (ys : List ℕ) × (zs : List ℕ) × (xs ≡ ys ++ a ∷ zs)
-In-split a [] h = absurd h
-In-split a (x ∷ xs) h = elim h [
-  | inl e ↦ ([], xs, ap (λ y. y ∷ xs) (sym e))
-  | inr t ↦ let s = In-split a xs t in (x ∷ s.0, s.1, ap (λ ys. x ∷ ys) s.2)
-]
-
-pub IsDistinct-split : (xs : List ℕ) (a : ℕ) (ys : List ℕ) → IsDistinct (xs ++ a ∷ ys) → IsDistinct (xs ++ ys) × (In a (xs ++ ys) → ⊥)
-IsDistinct-split [] a ys d = (d.1, d.0)
-IsDistinct-split (x ∷ xs) a ys d =
-    let r = IsDistinct-split xs a ys d.1 in
-    let absent : In x (xs ++ ys) → ⊥ = λ h. d.0 (elim (In-append_cases x xs ys h) [ inl l ↦ In-append_left x xs (a ∷ ys) l | inr t ↦ In-append_right x xs (a ∷ ys) (inr t) ]) in
-    ((absent, r.0), λ h. elim h [ inl e ↦ d.0 (In-append_right x xs (a ∷ ys) (inl (sym e))) | inr t ↦ r.1 t ])
-
-pub IsDistinct-join : (xs : List ℕ) (a : ℕ) (ys : List ℕ) → IsDistinct (xs ++ ys) → (In a (xs ++ ys) → ⊥) → IsDistinct (xs ++ a ∷ ys)
-IsDistinct-join [] a ys d n = (n, d)
-IsDistinct-join (x ∷ xs) a ys d n = (
-  λ h. elim (In-append_cases x xs (a ∷ ys) h) [
-    | inl l ↦ d.0 (In-append_left x xs ys l)
-    | inr r ↦ elim r [ inl e ↦ n (inl (sym e)) | inr t ↦ d.0 (In-append_right x xs ys t) ]
-  ],
-  IsDistinct-join xs a ys d.1 (λ h. n (inr h)),
-)
 
 -- what a chain says, first
 pub Follows-first : (f : ℕ → ℕ) (p : ℕ) (xs : List ℕ) (e : ℕ) → Follows f p xs e → f p ≡ first_of xs e

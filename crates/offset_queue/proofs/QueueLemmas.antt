@@ -5,7 +5,7 @@ use Rattle.std.proofs.lemmas.Grind.{common_steps}
 use Rattle.zone_region.specs.Words.{Words, SetsWord}
 use Rattle.zone_region.proofs.WordLemmas.{word_at-set_same, word_at-set_block, word_at-set_index, length-set_word}
 use Rattle.offset_queue.specs.declared.queue.Queue.{Queue}
-use Rattle.offset_queue.specs.Follows.{In, IsDistinct}
+use Rattle.zone_region.specs.Members.{In, IsDistinct}
 use Rattle.offset_queue.specs.Queue.{head_link, entry_links, block_of, index_of, prev_of, next_of, HoldsQueue, ChangesLinks, IsPlace}
 
 -- every one is a place

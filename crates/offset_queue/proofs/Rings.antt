@@ -1,8 +1,10 @@
 -- A ring of links both ways: what taking one out, or putting one in at the front, leaves.
 use Rattle.std.proofs.Common.{ℕ, ◌≡◌, ◌≢◌, List, [], ◌∷◌, ◌++◌, reverse, inl, inr, sym, subst, ◌∙◌, refl}
 use Rattle.std.proofs.lemmas.List.{reverse-append, append-nil}
-use Rattle.offset_queue.specs.Follows.{In, IsDistinct, Follows}
-use Rattle.offset_queue.proofs.FollowsLemmas.{first_of, last_of, In-append_left, In-append_right, In-append_cases, In-last_of, In-reverse, IsDistinct-split, IsDistinct-reverse, Follows-first, Follows-last, Follows-after, Follows-without, Follows-with, reverse-split, reverse-cons, first_of-reverse, last_of-reverse}
+use Rattle.zone_region.specs.Members.{In, IsDistinct}
+use Rattle.offset_queue.specs.Follows.{Follows}
+use Rattle.zone_region.proofs.MembersLemmas.{In-append_left, In-append_right, In-append_cases, IsDistinct-split}
+use Rattle.offset_queue.proofs.FollowsLemmas.{first_of, last_of, In-last_of, In-reverse, IsDistinct-reverse, Follows-first, Follows-last, Follows-after, Follows-without, Follows-with, reverse-split, reverse-cons, first_of-reverse, last_of-reverse}
 
 -- a ring from `h` through `xs` and back, forward by `f` and backward by `g`
 pub record Ring (f g : ℕ → ℕ) (h : ℕ) (xs : List ℕ) : Type 0 where

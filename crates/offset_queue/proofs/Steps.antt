@@ -3,9 +3,11 @@ use Rattle.std.proofs.Common.{ℕ, ◌≡◌, ◌≢◌, ◌⊎◌, ◌+◌, ◌
 use Rattle.std.proofs.lemmas.List.{map-append}
 use Rattle.zone_region.specs.Words.{Words, SetsWord}
 use Rattle.offset_queue.specs.declared.queue.Queue.{Queue}
-use Rattle.offset_queue.specs.Follows.{In, Follows}
+use Rattle.zone_region.specs.Members.{In}
+use Rattle.offset_queue.specs.Follows.{Follows}
 use Rattle.offset_queue.specs.Queue.{head_link, entry_links, block_of, index_of, prev_of, next_of, LaysQueue, HoldsQueue, IsQueue, ChangesLinks, IsPlace, last_entry}
-use Rattle.offset_queue.proofs.FollowsLemmas.{In-append_left, In-append_right, In-append_cases, In-split, IsDistinct-split, last_of, Follows-first, first_of-reverse}
+use Rattle.zone_region.proofs.MembersLemmas.{In-append_left, In-append_right, In-append_cases, In-split, IsDistinct-split}
+use Rattle.offset_queue.proofs.FollowsLemmas.{last_of, Follows-first, first_of-reverse}
 use Rattle.offset_queue.proofs.Rings.{Ring, ring_with, ring_without, In-next_in_ring, In-prev_in_ring}
 use Rattle.offset_queue.proofs.QueueLemmas.{writes_next, writes_prev, all_places, distinct_places, changes_both, changes_link, In-entry_links}
 

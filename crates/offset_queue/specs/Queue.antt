@@ -1,8 +1,9 @@
 -- How a queue lies in words.
 use Rattle.std.specs.Prelude.{ℕ, ◌≡◌, ◌≢◌, ◌⊎◌, ◌+◌, ◌-◌, ◌*◌, ◌^◌, ◌<◌, ◌≤◌, List, [], ◌∷◌, map, reverse, length, if◌then◌else◌, ◌==◌, Option, Some, None}
-use Rattle.zone_region.specs.Words.{Words, word_at}
+use Rattle.zone_region.specs.Words.{Words, word_at, IsApart}
 use Rattle.offset_queue.specs.declared.queue.Queue.{Queue}
-use Rattle.offset_queue.specs.Follows.{In, IsDistinct, Follows}
+use Rattle.zone_region.specs.Members.{In, IsDistinct}
+use Rattle.offset_queue.specs.Follows.{Follows}
 
 -- the byte offset of the head's link words
 abbrev pub head_link : Queue → ℕ
@@ -32,10 +33,6 @@ next_of m q link a = word_at m (block_of q link a) (index_of q link a + 1)
 pub record LaysQueue (m : Words) (q : Queue) (link : ℕ) (xs : List ℕ) : Type 0 where
   pub forward : Follows (next_of m q link) (head_link q) (entry_links link xs) (head_link q)
   pub backward : Follows (prev_of m q link) (head_link q) (reverse (entry_links link xs)) (head_link q)
-
--- the bytes of the two blocks don't overlap
-abbrev pub IsApart : Words → ℕ → ℕ → Type 0
-IsApart m x y = (x + 8 * length (m x) ≤ y) ⊎ (y + 8 * length (m y) ≤ x)
 
 -- The head's block is live and has room for its links, above offset 0 and below 2^63.
 pub record IsHead (m : Words) (q : Queue) : Type 0 where

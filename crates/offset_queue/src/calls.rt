@@ -1,6 +1,6 @@
 ghost use Rattle.std.specs.Prelude.{◌≡◌, ℕ, List, [], ◌∷◌, ◌++◌};
 ghost use Rattle.std.specs.Option.{option_map};
-ghost use Rattle.offset_queue.specs.Follows.{In};
+ghost use Rattle.zone_region.specs.Members.{In};
 ghost use Rattle.offset_queue.specs.Queue.{IsHead, HoldsQueue, LaysQueue, IsQueue, ChangesLinks, last_entry};
 
 use crate::places::{next, prev, set_next, set_prev};

@@ -1,29 +1,35 @@
 -- Trees of blocks of a grid.
-use Rattle.std.proofs.Common.{ℕ, ◌≡◌, ◌≢◌, ◌⊎◌, ◌+◌, ◌*◌, ◌%◌, ◌^◌, ◌<◌, ◌≤◌, zero, suc, List, [], ◌∷◌, ◌++◌, length, sym, ap, subst, ◌∙◌, refl, arith, inl, inr}
-use Rattle.std.proofs.lemmas.Bool.{cases_eq}
-use Rattle.std.proofs.lemmas.List.{length-replicate}
+use Rattle.std.proofs.Common.{ℕ, ◌≡◌, ◌≢◌, ◌⊎◌, ◌+◌, ◌*◌, ◌/◌, ◌%◌, ◌^◌, ◌<◌, ◌≤◌, zero, suc, List, [], ◌∷◌, ◌++◌, length, slice_index, sym, ap, subst, ◌∙◌, refl, arith, inl, inr}
+use Rattle.std.proofs.lemmas.Bool.{cases_eq, cases_order}
+use Rattle.std.proofs.lemmas.List.{length-replicate, length-append}
+use Rattle.std.proofs.lemmas.Nat.{pow_below}
 use Rattle.zone_region.specs.Words.{Words, word_at}
 use Rattle.zone_region.specs.Entries.{AddsBlock}
+use Rattle.zone_key.specs.Crc.{crc32_of}
 use Rattle.offset_tree.specs.declared.tree.Tree.{Tree}
-use Rattle.offset_tree.specs.Members.{In}
+use Rattle.zone_region.specs.Members.{In, IsDistinct}
 use Rattle.offset_tree.specs.Keys.{Rank, rank_of, key_of, key_len, bytes_of, IsForm, HoldsKey}
+use Rattle.offset_tree.specs.Bounds.{bits, search_cost}
+use Rattle.offset_tree.proofs.BoundLemmas.{bits-high}
 use Rattle.offset_tree.specs.Changes.{ChangesNodes, MakesEmpty}
 use Rattle.offset_tree.specs.Layout.{IsContext, IsTree, CanInsert, Inserted}
-use Rattle.offset_tree.proofs.MembersLemmas.{In-one_more, In-more, In-split}
+use Rattle.zone_region.proofs.MembersLemmas.{In-one_more, In-more, In-split, IsDistinct-split}
 use Rattle.offset_tree.proofs.InsertLemmas.{rank_same}
 use Rattle.offset_tree.proofs.Keeping.{same_block}
 use Rattle.offset_queue.specs.declared.queue.Queue.{Queue}
 use Rattle.offset_queue.specs.Queue.{HoldsQueue}
-use Rattle.offset_tests.proofs.LineLemmas.{three}
-use Rattle.offset_tests.specs.Grid.{place_of, spelled, IsGrid, HasTree}
+use Rattle.offset_tests.specs.Line.{full}
+use Rattle.offset_tests.specs.declared.keys.Keys.{Keys}
+use Rattle.offset_tests.specs.Grid.{place_of, key_at, rank_at, IsGrid, HasTree}
+use Rattle.offset_tests.proofs.KeyLemmas.{length-low}
 
 -- the context, or a block of the grid
 abbrev IsSpot : ℕ → ℕ → Type 0
 IsSpot n x = (x ≡ 4096) ⊎ ((k : ℕ) × (k < n) × (x ≡ place_of k))
 
-long : (m : Words) (t : Tree) (n x : ℕ) → IsGrid m t n → IsSpot n x → length (m x) ≡ 16
-long m t n x g (inl e) = subst (λ (q : ℕ). length (m q) ≡ 16) (sym e) g.head
-long m t n x g (inr s) = subst (λ (q : ℕ). length (m q) ≡ 16) (sym s.2) (g.room s.0 s.1)
+long : (m : Words) (t : Tree) (keys : Keys) (n x : ℕ) → IsGrid m t keys n → IsSpot n x → length (m x) ≡ 16
+long m t keys n x g (inl e) = subst (λ (q : ℕ). length (m q) ≡ 16) (sym e) g.head
+long m t keys n x g (inr s) = subst (λ (q : ℕ). length (m q) ≡ 16) (sym s.2) (g.room s.0 s.1)
 
 spots_apart : (n x y lx ly : ℕ) → lx ≡ 16 → ly ≡ 16 → IsSpot n x → IsSpot n y → x ≢ y → (x + 8 * lx ≤ y) ⊎ (y + 8 * ly ≤ x)
 spots_apart n x y lx ly ex ey (inl a) (inl b) ne = absurd (ne (a ∙ sym b))
@@ -34,12 +40,10 @@ spots_apart n x y lx ly ex ey (inr a) (inr b) ne = elim (cases_eq a.0 b.0) [
   | inr d ↦ sides a.0 b.0 d a.2 b.2
 ] where
   sides : (i j : ℕ) → i ≢ j → x ≡ place_of i → y ≡ place_of j → (x + 8 * lx ≤ y) ⊎ (y + 8 * ly ≤ x)
-  sides i j d p q = elim (less_cases i j d) [ inl l ↦ inl (omega (arith, ex, l, p, q)) | inr l ↦ inr (omega (arith, ey, l, p, q)) ] where
-    less_cases : (i j : ℕ) → i ≢ j → (i < j) ⊎ (j < i)
-    less_cases zero zero d = absurd (d refl)
-    less_cases zero (suc j) d = inl (omega arith)
-    less_cases (suc i) zero d = inr (omega arith)
-    less_cases (suc i) (suc j) d = elim (less_cases i j (λ e. d (ap (λ (k : ℕ). suc k) e))) [ inl l ↦ inl (omega (arith, l)) | inr l ↦ inr (omega (arith, l)) ]
+  sides i j d p q = elim (cases_order i j) [
+    | inl e ↦ absurd (d e)
+    | inr other ↦ elim other [ inl l ↦ inl (omega (arith, ex, l, p, q)) | inr l ↦ inr (omega (arith, ey, l, p, q)) ]
+  ]
 
 spot_low : (n x : ℕ) → IsSpot n x → 0 < x
 spot_low n x (inl e) = omega (arith, e)
@@ -53,61 +57,55 @@ length-bytes_of : (m : Words) (x j len : ℕ) → length (bytes_of m x j len) �
 length-bytes_of m x j zero = refl
 length-bytes_of m x j (suc len) = ap (λ (k : ℕ). suc k) (length-bytes_of m x (j + 1) len)
 
--- the rank of a block of the grid
-pub grid_rank : (m : Words) (t : Tree) (n k : ℕ) → IsGrid m t n → k < n → rank_of m t.form (place_of k) ≡ (k % 5, spelled k)
-grid_rank m t n k g l =
-    let key : key_of m t.form (place_of k) ≡ spelled k = g.keys k l in
-    ap (λ (h : ℕ). let p : Rank = (h, key_of m t.form (place_of k)) in p) (g.hashes k l) ∙ ap (λ (b : List ℕ). let p : Rank = (k % 5, b) in p) key
-
-holds_key : (m : Words) (t : Tree) (n k : ℕ) → IsForm t.form → IsGrid m t n → k < n → HoldsKey m t.form (place_of k)
-holds_key m t n k form g l =
-    let key : key_of m t.form (place_of k) ≡ spelled k = g.keys k l in
-    let len : key_len m t.form (place_of k) ≡ 4 = sym (length-bytes_of m (place_of k) t.form.key_at (key_len m t.form (place_of k))) ∙ ap (λ bs. length bs) key in
+holds_key : (m : Words) (t : Tree) (keys : Keys) (n k : ℕ) → IsForm t.form → IsGrid m t keys n → k < n → HoldsKey m t.form (place_of k)
+holds_key m t keys n k form g l =
+    let len : key_len m t.form (place_of k) ≡ length (key_at keys k) = sym (length-bytes_of m (place_of k) t.form.key_at (key_len m t.form (place_of k))) ∙ ap (λ (r : Rank). length r.1) (g.ranks k l) in
+    let short : length (key_at keys k) ≤ 8 = length-low keys.len (slice_index keys.numbers.items k) in
     let room = g.room k l in
     let start : t.form.key_at ≤ 80 = elim form.len_place [ inl r ↦ omega (arith, r.2) | inr c ↦ omega (arith, c.2) ] in
-    record { links = omega (arith, room); key = omega (arith, room, len, start) }
+    record { links = omega (arith, room); key = omega (arith, room, len, short, start) }
 
 -- a block that isn't in the tree can be put in
-pub can_insert : (m : Words) (t : Tree) (n k : ℕ) → IsForm t.form → (h : HasTree m t n) → k < n → ((x : ℕ) → In x h.blocks → rank_of m t.form x ≢ (k % 5, spelled k)) → CanInsert m t (place_of k) (spelled k) h.blocks
-can_insert m t n k form h l none =
+can_insert : (m : Words) (t : Tree) (keys : Keys) (k : ℕ) → IsForm t.form → (h : HasTree m t keys) → k < length keys.numbers.items → ((x : ℕ) → In x h.blocks → rank_of m t.form x ≢ rank_at keys k) →
+    CanInsert m t (place_of k) (key_at keys k) h.blocks
+can_insert m t keys k form h l none =
+    let n = length keys.numbers.items in
     let b = place_of k in
     let xs = h.blocks in
-    let rank = grid_rank m t n k h.grid l in
+    let rank = h.grid.ranks k l in
     let spot = λ (x : ℕ) (i : In x (t.context.at ∷ b ∷ xs)). elim i as (λ _. IsSpot n x) [
       | inl e ↦ inl (e ∙ h.grid.context)
       | inr j ↦ elim j [ inl e ↦ inr (k, l, e) | inr s ↦ inr (h.places x s) ]
     ] in
+    let size = λ (x : ℕ) (i : In x (t.context.at ∷ b ∷ xs)). long m t keys n x h.grid (spot x i) in
     let apart : t.context.at ≢ b = λ e. omega (arith, e, h.grid.context) in
     record {
       holds = record {
-        context = let head : length (m t.context.at) ≡ 16 = subst (λ (q : ℕ). length (m q) ≡ 16) (sym h.grid.context) h.grid.head in omega (arith, head);
-        nodes = λ x i. elim i [ inl e ↦ subst (λ (q : ℕ). HoldsKey m t.form q) (sym e) (holds_key m t n k form h.grid l) | inr j ↦ h.tree.holds.nodes x j ];
-        apart = λ x y i j ne. spots_apart n x y (length (m x)) (length (m y)) (long m t n x h.grid (spot x i)) (long m t n y h.grid (spot y j)) (spot x i) (spot y j) ne;
+        context = omega (arith, size t.context.at (inl refl));
+        nodes = λ x i. elim i [ inl e ↦ subst (λ (q : ℕ). HoldsKey m t.form q) (sym e) (holds_key m t keys n k form h.grid l) | inr j ↦ h.tree.holds.nodes x j ];
+        apart = λ x y i j ne. spots_apart n x y (length (m x)) (length (m y)) (size x i) (size y j) (spot x i) (spot y j) ne;
         distinct = (λ i. elim i [ inl e ↦ apart e | inr j ↦ h.tree.holds.distinct.0 j ], (λ i. none b i rank, h.tree.holds.distinct.1));
         above = λ x i. spot_low n x (spot x i);
-        below = λ x i. spot_high n x (length (m x)) h.grid.few (long m t n x h.grid (spot x i)) (spot x i);
+        below = λ x i. spot_high n x (length (m x)) h.grid.few (size x i) (spot x i);
       };
       lays = h.tree.lays;
-      key_is = h.grid.keys k l;
+      key_is = ap (λ (r : Rank). r.1) rank;
       other = λ x i e. none x i (e ∙ rank);
     }
 
 -- the grid stays where links and colours change
-grid_same : (m n : Words) (t : Tree) (count : ℕ) (xs : List ℕ) → IsForm t.form → ChangesNodes m n t.context.at xs → IsGrid m t count → IsGrid n t count
-grid_same m n t count xs form c g =
-    let away = λ (k : ℕ). let r : place_of k ≢ t.context.at = λ e. omega (arith, e, g.context) in r in
-    record {
-      context = g.context;
-      few = g.few;
-      head = c.lengths 4096 ∙ g.head;
-      room = λ k l. c.lengths (place_of k) ∙ g.room k l;
-      hashes = λ k l. c.nodes (place_of k) 0 (away k) (inl refl) ∙ g.hashes k l;
-      keys = λ k l. ap (λ (r : Rank). r.1) (rank_same m n t.form t.context.at xs (place_of k) form c (away k)) ∙ g.keys k l;
-    }
+grid_same : (m n : Words) (t : Tree) (keys : Keys) (count : ℕ) (xs : List ℕ) → IsForm t.form → ChangesNodes m n t.context.at xs → IsGrid m t keys count → IsGrid n t keys count
+grid_same m n t keys count xs form c g = record {
+  context = g.context;
+  few = g.few;
+  head = c.lengths 4096 ∙ g.head;
+  room = λ k l. c.lengths (place_of k) ∙ g.room k l;
+  ranks = λ k l. rank_same m n t.form t.context.at xs (place_of k) form c (λ e. omega (arith, e, g.context)) ∙ g.ranks k l;
+}
 
-pub tree_with : (m n : Words) (t : Tree) (count k : ℕ) → IsForm t.form → (h : HasTree m t count) → k < count → Inserted m n t (place_of k) h.blocks → HasTree n t count
-tree_with m n t count k form h l i = record {
-  grid = grid_same m n t count (i.before ++ place_of k ∷ i.after) form i.changes h.grid;
+tree_with : (m n : Words) (t : Tree) (keys : Keys) (k : ℕ) → IsForm t.form → (h : HasTree m t keys) → k < length keys.numbers.items → Inserted m n t (place_of k) h.blocks → HasTree n t keys
+tree_with m n t keys k form h l i = record {
+  grid = grid_same m n t keys (length keys.numbers.items) (i.before ++ place_of k ∷ i.after) form i.changes h.grid;
   blocks = i.before ++ place_of k ∷ i.after;
   tree = i.tree;
   places = λ x j. elim (In-one_more x i.before (place_of k) i.after j) [
@@ -116,68 +114,66 @@ tree_with m n t count k form h l i = record {
   ];
 }
 
-pub tree_without : (m n : Words) (t : Tree) (count b : ℕ) → IsForm t.form → (h : HasTree m t count) → In b h.blocks →
-    ((before after : List ℕ) → IsTree m t (before ++ b ∷ after) → IsTree n t (before ++ after)) → ChangesNodes m n t.context.at h.blocks → HasTree n t count
-tree_without m n t count b form h i removed changes =
+pub tree_without : (m n : Words) (t : Tree) (keys : Keys) (b : ℕ) → IsForm t.form → (h : HasTree m t keys) → In b h.blocks →
+    ((before after : List ℕ) → IsTree m t (before ++ b ∷ after) → IsTree n t (before ++ after)) → ChangesNodes m n t.context.at h.blocks → HasTree n t keys
+tree_without m n t keys b form h i removed changes =
     let s = In-split b h.blocks i in
     record {
-      grid = grid_same m n t count h.blocks form changes h.grid;
+      grid = grid_same m n t keys (length keys.numbers.items) h.blocks form changes h.grid;
       blocks = s.0 ++ s.1;
       tree = removed s.0 s.1 (subst (λ (zs : List ℕ). IsTree m t zs) s.2 h.tree);
       places = λ x j. h.places x (subst (λ (zs : List ℕ). In x zs) (sym s.2) (In-more x s.0 b s.1 j));
     }
 
--- the grid stays where only the context's words change
-grid_beside : (m n : Words) (t : Tree) (count : ℕ) → MakesEmpty m n t.context.at → IsGrid m t count → IsGrid n t count
-grid_beside m n t count c g =
-    let same = λ (k : ℕ). let r : n (place_of k) ≡ m (place_of k) = c.others (place_of k) (λ e. omega (arith, e, g.context)) in r in
-    record {
-      context = g.context;
-      few = g.few;
-      head = c.lengths 4096 ∙ g.head;
-      room = λ k l. c.lengths (place_of k) ∙ g.room k l;
-      hashes = λ k l. ap (λ (r : Rank). r.0) (same_block m n t.form (place_of k) (same k)).1 ∙ g.hashes k l;
-      keys = λ k l. ap (λ (r : Rank). r.1) (same_block m n t.form (place_of k) (same k)).1 ∙ g.keys k l;
-    }
+-- an empty tree beside the grid
+pub empty_tree : (m n : Words) (t : Tree) (keys : Keys) → MakesEmpty m n t.context.at → IsTree n t [] → IsGrid m t keys (length keys.numbers.items) → HasTree n t keys
+empty_tree m n t keys c e g = record {
+  grid = record {
+    context = g.context;
+    few = g.few;
+    head = c.lengths 4096 ∙ g.head;
+    room = λ k l. c.lengths (place_of k) ∙ g.room k l;
+    ranks = λ k l. (same_block m n t.form (place_of k) (c.others (place_of k) (λ q. omega (arith, q, g.context)))).1 ∙ g.ranks k l;
+  };
+  blocks = [];
+  tree = e;
+  places = λ x i. absurd i;
+}
 
-pub empty_tree : (m n : Words) (t : Tree) (count : ℕ) → MakesEmpty m n t.context.at → IsTree n t [] → IsGrid m t count → HasTree n t count
-empty_tree m n t count c e g = record { grid = grid_beside m n t count c g; blocks = []; tree = e; places = λ x i. absurd i }
-
-pub grid_context : (m : Words) (t : Tree) (n : ℕ) → IsGrid m t n → IsContext m t
-grid_context m t n g =
+pub grid_context : (m : Words) (t : Tree) (keys : Keys) (n : ℕ) → IsGrid m t keys n → IsContext m t
+grid_context m t keys n g =
     let head : length (m t.context.at) ≡ 16 = subst (λ (q : ℕ). length (m q) ≡ 16) (sym g.context) g.head in
     record { room = omega (arith, head); above = omega (arith, g.context); below = omega (arith, head, g.context) }
 
 -- the same at the values that the code has
-pub can_insert_at : (m : Words) (t : Tree) (n k b : ℕ) (key : List ℕ) → IsForm t.form → (h : HasTree m t n) → k < n → b ≡ place_of k → key ≡ spelled k →
-    ((x : ℕ) → In x h.blocks → rank_of m t.form x ≢ (k % 5, key)) → CanInsert m t b key h.blocks
-can_insert_at m t n k b key form h l at same none =
+pub can_insert_at : (m : Words) (t : Tree) (keys : Keys) (k b hash : ℕ) (key : List ℕ) → IsForm t.form → (h : HasTree m t keys) → k < length keys.numbers.items → b ≡ place_of k → key ≡ key_at keys k → hash ≡ crc32_of key →
+    ((x : ℕ) → In x h.blocks → rank_of m t.form x ≢ (hash, key)) → CanInsert m t b key h.blocks
+can_insert_at m t keys k b hash key form h l at same crc none =
+    let rank : rank_at keys k ≡ (hash, key) = ap (λ (bs : List ℕ). let p : Rank = (crc32_of bs, bs) in p) (sym same) ∙ ap (λ (a : ℕ). let p : Rank = (a, key) in p) (sym crc) in
     subst (λ (z : ℕ). CanInsert m t z key h.blocks) (sym at) (subst (λ (bs : List ℕ). CanInsert m t (place_of k) bs h.blocks) (sym same)
-    (can_insert m t n k form h l (λ x i e. none x i (e ∙ ap (λ (bs : List ℕ). let p : Rank = (k % 5, bs) in p) (sym same)))))
+    (can_insert m t keys k form h l (λ x i e. none x i (e ∙ rank))))
 
-pub tree_with_at : (m n : Words) (t : Tree) (count k b : ℕ) → IsForm t.form → (h : HasTree m t count) → k < count → b ≡ place_of k → Inserted m n t b h.blocks → HasTree n t count
-tree_with_at m n t count k b form h l at i = tree_with m n t count k form h l (subst (λ (z : ℕ). Inserted m n t z h.blocks) at i)
+pub tree_with_at : (m n : Words) (t : Tree) (keys : Keys) (k b : ℕ) → IsForm t.form → (h : HasTree m t keys) → k < length keys.numbers.items → b ≡ place_of k → Inserted m n t b h.blocks → HasTree n t keys
+tree_with_at m n t keys k b form h l at i = tree_with m n t keys k form h l (subst (λ (z : ℕ). Inserted m n t z h.blocks) at i)
 
 -- the context alone is a grid of no blocks
-pub grid_start : (m n : Words) (t : Tree) → t.context.at ≡ 4096 → AddsBlock m n t.context.at 16 → IsGrid n t 0
-grid_start m n t at a = record {
+pub grid_start : (m n : Words) (t : Tree) (keys : Keys) → t.context.at ≡ 4096 → AddsBlock m n t.context.at 16 → IsGrid n t keys 0
+grid_start m n t keys at a = record {
   context = at;
   few = omega arith;
   head = subst (λ (z : ℕ). length (n z) ≡ 16) at (ap (λ ws. length ws) a.added ∙ length-replicate {A = ℕ} 16 0);
   room = λ k l. absurd (omega (arith, l));
-  hashes = λ k l. absurd (omega (arith, l));
-  keys = λ k l. absurd (omega (arith, l));
+  ranks = λ k l. absurd (omega (arith, l));
 }
 
 -- one block more, with its key
-pub record Writes (m n : Words) (t : Tree) (k : ℕ) : Type 0 where
+pub record Writes (m n : Words) (t : Tree) (keys : Keys) (k : ℕ) : Type 0 where
   pub lengths : (z : ℕ) → length (n z) ≡ length (m z)
   pub others : (z : ℕ) → z ≢ place_of k → n z ≡ m z
-  pub hash : word_at n (place_of k) 0 ≡ k % 5
-  pub key : (rank_of n t.form (place_of k)).1 ≡ spelled k
+  pub rank : rank_of n t.form (place_of k) ≡ rank_at keys k
 
-pub grid_more : (l m n : Words) (t : Tree) (k at : ℕ) → IsGrid l t k → k < 65536 → at ≡ place_of k → AddsBlock l m at 16 → Writes m n t k → IsGrid n t (k + 1)
-grid_more l m n t k at g few e a w =
+pub grid_more : (l m n : Words) (t : Tree) (keys : Keys) (k at : ℕ) → IsGrid l t keys k → k < 65536 → at ≡ place_of k → AddsBlock l m at 16 → Writes m n t keys k → IsGrid n t keys (k + 1)
+grid_more l m n t keys k at g few e a w =
     let added : length (m (place_of k)) ≡ 16 = subst (λ (z : ℕ). length (m z) ≡ 16) e (ap (λ ws. length ws) a.added ∙ length-replicate {A = ℕ} 16 0) in
     let same = λ (z : ℕ) (ne : z ≢ place_of k). let r : n z ≡ l z = w.others z ne ∙ a.others z (λ q. ne (q ∙ e)) in r in
     let apart = λ (j : ℕ) (ne : j ≢ k). let r : place_of j ≢ place_of k = λ q. ne (omega (arith, q)) in r in
@@ -190,38 +186,70 @@ grid_more l m n t k at g few e a w =
         | inl q ↦ subst (λ (i : ℕ). length (n (place_of i)) ≡ 16) (sym q) (w.lengths (place_of k) ∙ added)
         | inr ne ↦ ap (λ ws. length ws) (same (place_of j) (apart j ne)) ∙ g.room j (old j b ne)
       ];
-      hashes = λ j b. elim (cases_eq j k) [
-        | inl q ↦ subst (λ (i : ℕ). word_at n (place_of i) 0 ≡ i % 5) (sym q) w.hash
-        | inr ne ↦ ap (λ (r : Rank). r.0) (same_block l n t.form (place_of j) (same (place_of j) (apart j ne))).1 ∙ g.hashes j (old j b ne)
-      ];
-      keys = λ j b. elim (cases_eq j k) [
-        | inl q ↦ subst (λ (i : ℕ). (rank_of n t.form (place_of i)).1 ≡ spelled i) (sym q) w.key
-        | inr ne ↦ ap (λ (r : Rank). r.1) (same_block l n t.form (place_of j) (same (place_of j) (apart j ne))).1 ∙ g.keys j (old j b ne)
+      ranks = λ j b. elim (cases_eq j k) [
+        | inl q ↦ subst (λ (i : ℕ). rank_of n t.form (place_of i) ≡ rank_at keys i) (sym q) w.rank
+        | inr ne ↦ (same_block l n t.form (place_of j) (same (place_of j) (apart j ne))).1 ∙ g.ranks j (old j b ne)
       ];
     }
 
+-- a tree has no more blocks than the grid
+pub few_blocks : (n : ℕ) (xs : List ℕ) → IsDistinct xs → ((x : ℕ) → In x xs → (k : ℕ) × (k < n) × (x ≡ place_of k)) → length xs ≤ n
+few_blocks zero [] d at = omega arith
+few_blocks zero (x ∷ xs) d at = let p = at x (inl refl) in absurd (omega (arith, p.1))
+few_blocks (suc n) xs d at = elim (is_in (place_of n) xs) [
+  | inl i ↦
+      let s = In-split (place_of n) xs i in
+      let rest = IsDistinct-split s.0 (place_of n) s.1 (subst (λ (zs : List ℕ). IsDistinct zs) s.2 d) in
+      let fewer = few_blocks n (s.0 ++ s.1) rest.0 (λ x j. below n x (λ e. rest.1 (subst (λ (z : ℕ). In z (s.0 ++ s.1)) e j)) (at x (subst (λ (zs : List ℕ). In x zs) (sym s.2) (In-more x s.0 (place_of n) s.1 j)))) in
+      let whole : length xs ≡ length (s.0 ++ place_of n ∷ s.1) = ap (λ zs. length zs) s.2 in
+      omega (arith, fewer, whole, length-append s.0 (place_of n ∷ s.1), length-append s.0 s.1)
+  | inr none ↦ let fewer = few_blocks n xs d (λ x j. below n x (λ e. none (subst (λ (z : ℕ). In z xs) e j)) (at x j)) in omega (arith, fewer)
+] where
+  is_in : (a : ℕ) (ys : List ℕ) → In a ys ⊎ (In a ys → ⊥)
+  is_in a [] = inr (λ i. i)
+  is_in a (y ∷ ys) = elim (cases_eq a y) [
+    | inl e ↦ inl (inl e)
+    | inr ne ↦ elim (is_in a ys) [ inl i ↦ inl (inr i) | inr none ↦ inr (λ i. elim i [ inl e ↦ ne e | inr j ↦ none j ]) ]
+  ]
+
+  below : (m x : ℕ) → x ≢ place_of m → (k : ℕ) × (k < suc m) × (x ≡ place_of k) → (k : ℕ) × (k < m) × (x ≡ place_of k)
+  below m x ne p = (p.0, omega (arith, p.1, λ (e : p.0 ≡ m). ne (p.2 ∙ ap (λ k. place_of k) e)), p.2)
+
+-- what a search among at most a thousand keys of four bytes costs
+pub cost_of_thousand : (n len : ℕ) → n ≤ 1000 → len ≡ 4 → search_cost n len ≤ 105
+unfolding search_cost
+cost_of_thousand n len few four =
+    let high : 2 ^ bits (n + 1) ≤ 2002 = omega (arith, few, bits-high (n + 1) (λ e. omega (arith, e))) in
+    let ten = at_most_ten (bits (n + 1)) high in
+    subst (λ (l : ℕ). (2 * bits (n + 1) + 1) * (5 + l / 8) ≤ 105) (sym four) (omega (arith, ten)) where
+      at_most_ten : (b : ℕ) → 2 ^ b ≤ 2002 → b ≤ 10
+      at_most_ten b h = elim (cases_order b 11) [
+        | inl e ↦ absurd (let p : 2 ^ 11 ≤ 2002 = subst (λ (x : ℕ). 2 ^ x ≤ 2002) e h in omega (arith, p))
+        | inr other ↦ elim other [ inl low ↦ omega (arith, low) | inr high ↦ absurd (omega (arith, h, pow_below 11 b high)) ]
+      ]
+
 -- the first three blocks of a grid can be in a queue whose head is in the context
-pub grid_queue : (m : Words) (t : Tree) (q : Queue) → IsGrid m t 3 → q.head.at ≡ 4096 → q.at ≡ 8 → HoldsQueue m q 5 three
-grid_queue m t q g at word =
-    let spot = λ (x : ℕ) (i : In x (q.head.at ∷ three)). elim i as (λ _. IsSpot 3 x) [
+pub grid_queue : (m : Words) (t : Tree) (q : Queue) (keys : Keys) (n : ℕ) → IsGrid m t keys n → 3 ≤ n → q.head.at ≡ 4096 → q.at ≡ 8 → HoldsQueue m q 5 full
+grid_queue m t q keys n g most at word =
+    let spot = λ (x : ℕ) (i : In x (q.head.at ∷ full)). elim i as (λ _. IsSpot n x) [
       | inl e ↦ inl (e ∙ at)
       | inr j ↦ elim j [
-        | inl e ↦ inr (0, omega arith, e)
+        | inl e ↦ inr (2, omega (arith, most), e)
         | inr k ↦ elim k [
-          | inl e ↦ inr (1, omega arith, e)
-          | inr l ↦ elim l [ inl e ↦ inr (2, omega arith, e) | inr none ↦ absurd none ]
+          | inl e ↦ inr (1, omega (arith, most), e)
+          | inr l ↦ elim l [ inl e ↦ inr (0, omega (arith, most), e) | inr none ↦ absurd none ]
         ]
       ]
     ] in
-    let size = λ (x : ℕ) (i : In x (q.head.at ∷ three)). long m t 3 x g (spot x i) in
+    let size = λ (x : ℕ) (i : In x (q.head.at ∷ full)). long m t keys n x g (spot x i) in
     record {
       head = omega (arith, size q.head.at (inl refl), word);
       entries = λ x i. omega (arith, size x (inr i));
-      apart = λ x y i j ne. spots_apart 3 x y (length (m x)) (length (m y)) (size x i) (size y j) (spot x i) (spot y j) ne;
+      apart = λ x y i j ne. spots_apart n x y (length (m x)) (length (m y)) (size x i) (size y j) (spot x i) (spot y j) ne;
       distinct = (
         λ i. elim i [ inl e ↦ omega (arith, e, at) | inr j ↦ elim j [ inl e ↦ omega (arith, e, at) | inr k ↦ elim k [ inl e ↦ omega (arith, e, at) | inr none ↦ none ] ] ],
         (λ i. elim i [ inl e ↦ omega (arith, e) | inr j ↦ elim j [ inl e ↦ omega (arith, e) | inr none ↦ none ] ], (λ i. elim i [ inl e ↦ omega (arith, e) | inr none ↦ none ], (λ i. i, tt))),
       );
-      above = λ x i. spot_low 3 x (spot x i);
-      below = λ x i. spot_high 3 x (length (m x)) g.few (size x i) (spot x i);
+      above = λ x i. spot_low n x (spot x i);
+      below = λ x i. spot_high n x (length (m x)) g.few (size x i) (spot x i);
     }

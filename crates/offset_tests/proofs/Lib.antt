@@ -1,2 +1,3 @@
-pub mod LineLemmas
+pub mod KeyLemmas
 pub mod GridLemmas
+pub mod LineLemmas

@@ -1,62 +1,64 @@
--- Three blocks in a queue.
-use Rattle.std.proofs.Common.{ℕ, List, [], ◌∷◌, refl, arith, inl, inr}
+-- Some of three blocks in a queue.
+use Rattle.std.proofs.Common.{ℕ, ◌≡◌, List, [], ◌∷◌, ◌++◌, Some, None, refl, arith, inl, inr, subst, sym, ap, ◌∙◌}
+use Rattle.std.proofs.lemmas.Option.{none-some}
 use Rattle.zone_region.specs.Words.{Words}
+use Rattle.zone_region.specs.Members.{In, IsDistinct}
+use Rattle.zone_region.proofs.MembersLemmas.{In-more, In-one_more, In-middle}
 use Rattle.offset_queue.specs.declared.queue.Queue.{Queue}
-use Rattle.offset_queue.specs.Follows.{In, IsDistinct}
-use Rattle.offset_queue.specs.Queue.{IsHead, HoldsQueue}
+use Rattle.offset_queue.specs.Queue.{IsHead, HoldsQueue, LaysQueue, IsQueue, ChangesLinks, last_entry}
+use Rattle.offset_queue.proofs.Steps.{holds_kept}
+use Rattle.offset_tests.specs.Line.{full, IsLine}
 
--- the three blocks
-abbrev pub three : List ℕ
-three = 8192 ∷ 8320 ∷ 8448 ∷ []
-
-pub head_of : (m : Words) (q : Queue) → HoldsQueue m q 5 three → IsHead m q
+pub head_of : (m : Words) (q : Queue) → HoldsQueue m q 5 full → IsHead m q
 head_of m q h = record { room = h.head; above = h.above q.head.at (inl refl); below = h.below q.head.at (inl refl) }
 
--- some of them
-some_of : (m : Words) (q : Queue) (xs : List ℕ) → HoldsQueue m q 5 three → ((x : ℕ) → In x xs → In x three) → IsDistinct xs → HoldsQueue m q 5 xs
-some_of m q xs h within distinct =
-    let up = λ (x : ℕ) (i : In x (q.head.at ∷ xs)). elim i as (λ _. In x (q.head.at ∷ three)) [ inl e ↦ inl e | inr j ↦ inr (within x j) ] in
+-- one more of the three can be put in
+pub can_push : (m : Words) (q : Queue) (b : ℕ) (xs : List ℕ) → IsLine m q xs → In b full → (In b xs → ⊥) → HoldsQueue m q 5 (b ∷ xs)
+can_push m q b xs l one absent =
+    let inside = λ (x : ℕ) (i : In x (b ∷ xs)). elim i as (λ _. In x full) [ inl e ↦ subst (λ (z : ℕ). In z full) (sym e) one | inr j ↦ l.within x j ] in
+    let up = λ (x : ℕ) (i : In x (q.head.at ∷ b ∷ xs)). elim i as (λ _. In x (q.head.at ∷ full)) [ inl e ↦ inl e | inr j ↦ inr (inside x j) ] in
     record {
-      head = h.head;
-      entries = λ x i. h.entries x (within x i);
-      apart = λ x y i j ne. h.apart x y (up x i) (up y j) ne;
-      distinct = (λ i. h.distinct.0 (within q.head.at i), distinct);
-      above = λ x i. h.above x (up x i);
-      below = λ x i. h.below x (up x i);
+      head = l.room.head;
+      entries = λ x i. l.room.entries x (inside x i);
+      apart = λ x y i j ne. l.room.apart x y (up x i) (up y j) ne;
+      distinct = (λ i. l.room.distinct.0 (inside q.head.at i), (absent, l.queue.holds.distinct.1));
+      above = λ x i. l.room.above x (up x i);
+      below = λ x i. l.room.below x (up x i);
     }
 
-within_first : (x : ℕ) → In x (8192 ∷ []) → In x three
-within_first x i = elim i [ inl e ↦ inl e | inr i_ ↦ absurd i_ ]
+-- an empty queue
+pub line_start : (m n : Words) (q : Queue) → HoldsQueue m q 5 full → IsQueue n q 5 [] → ChangesLinks m n q 5 [] → IsLine n q []
+line_start m n q h lays c = record { room = holds_kept m n q 5 full c.lengths h; within = λ x i. absurd i; queue = lays }
 
-distinct_first : IsDistinct (8192 ∷ [])
-distinct_first = (λ i. i, tt)
+pub line_with : (m n : Words) (q : Queue) (b : ℕ) (xs : List ℕ) → IsLine m q xs → In b full → IsQueue n q 5 (b ∷ xs) → ChangesLinks m n q 5 (b ∷ xs) → IsLine n q (b ∷ xs)
+line_with m n q b xs l one lays c = record {
+  room = holds_kept m n q 5 full c.lengths l.room;
+  within = λ x i. elim i [ inl e ↦ subst (λ (z : ℕ). In z full) (sym e) one | inr j ↦ l.within x j ];
+  queue = lays;
+}
 
-pub hold_first : (m : Words) (q : Queue) → HoldsQueue m q 5 three → HoldsQueue m q 5 (8192 ∷ [])
-hold_first m q h = some_of m q (8192 ∷ []) h within_first distinct_first
+pub line_without : (m n : Words) (q : Queue) (ys : List ℕ) (b : ℕ) (zs : List ℕ) → IsLine m q (ys ++ b ∷ zs) → IsQueue n q 5 (ys ++ zs) → ChangesLinks m n q 5 (ys ++ b ∷ zs) → IsLine n q (ys ++ zs)
+line_without m n q ys b zs l lays c = record {
+  room = holds_kept m n q 5 full c.lengths l.room;
+  within = λ x i. l.within x (In-more x ys b zs i);
+  queue = lays;
+}
 
-within_second : (x : ℕ) → In x (8320 ∷ 8192 ∷ []) → In x three
-within_second x i = elim i [ inl e ↦ inr (inl e) | inr i_ ↦ elim i_ [ inl e ↦ inl e | inr i__ ↦ absurd i__ ] ]
+pub line_moved : (m n : Words) (q : Queue) (ys : List ℕ) (b : ℕ) (zs : List ℕ) → IsLine m q (ys ++ b ∷ zs) → IsQueue n q 5 (b ∷ ys ++ zs) → ChangesLinks m n q 5 (ys ++ b ∷ zs) → IsLine n q (b ∷ ys ++ zs)
+line_moved m n q ys b zs l lays c = record {
+  room = holds_kept m n q 5 full c.lengths l.room;
+  within = λ x i. elim i [ inl e ↦ subst (λ (z : ℕ). In z full) (sym e) (l.within b (In-middle ys b zs)) | inr j ↦ l.within x (In-more x ys b zs j) ];
+  queue = lays;
+}
 
-distinct_second : IsDistinct (8320 ∷ 8192 ∷ [])
-distinct_second = (λ i. elim i [ inl e ↦ omega (arith, e) | inr i_ ↦ i_ ], (λ i. i, tt))
+-- the last one is a member
+pub In-last_entry : (b : ℕ) (xs : List ℕ) → Some b ≡ last_entry xs → In b xs
+In-last_entry b [] e = absurd (none-some b (sym e))
+In-last_entry b (x ∷ []) e = inl (ap (λ o. elim o as (λ _. ℕ) [ Some y ↦ y | None ↦ 0 ]) e)
+In-last_entry b (x ∷ y ∷ ys) e = inr (In-last_entry b (y ∷ ys) e)
 
-pub hold_second : (m : Words) (q : Queue) → HoldsQueue m q 5 three → HoldsQueue m q 5 (8320 ∷ 8192 ∷ [])
-hold_second m q h = some_of m q (8320 ∷ 8192 ∷ []) h within_second distinct_second
+pub not_second : In 8320 (8192 ∷ []) → ⊥
+not_second i = elim i [ inl e ↦ omega (arith, e) | inr none ↦ none ]
 
-within_third : (x : ℕ) → In x (8448 ∷ 8320 ∷ 8192 ∷ []) → In x three
-within_third x i = elim i [ inl e ↦ inr (inr (inl e)) | inr i_ ↦ elim i_ [ inl e ↦ inr (inl e) | inr i__ ↦ elim i__ [ inl e ↦ inl e | inr i___ ↦ absurd i___ ] ] ]
-
-distinct_third : IsDistinct (8448 ∷ 8320 ∷ 8192 ∷ [])
-distinct_third = (λ i. elim i [ inl e ↦ omega (arith, e) | inr i_ ↦ elim i_ [ inl e ↦ omega (arith, e) | inr i__ ↦ i__ ] ], (λ i. elim i [ inl e ↦ omega (arith, e) | inr i_ ↦ i_ ], (λ i. i, tt)))
-
-pub hold_third : (m : Words) (q : Queue) → HoldsQueue m q 5 three → HoldsQueue m q 5 (8448 ∷ 8320 ∷ 8192 ∷ [])
-hold_third m q h = some_of m q (8448 ∷ 8320 ∷ 8192 ∷ []) h within_third distinct_third
-
-within_last : (x : ℕ) → In x (8448 ∷ []) → In x three
-within_last x i = elim i [ inl e ↦ inr (inr (inl e)) | inr i_ ↦ absurd i_ ]
-
-distinct_last : IsDistinct (8448 ∷ [])
-distinct_last = (λ i. i, tt)
-
-pub hold_last : (m : Words) (q : Queue) → HoldsQueue m q 5 three → HoldsQueue m q 5 (8448 ∷ [])
-hold_last m q h = some_of m q (8448 ∷ []) h within_last distinct_last
+pub not_third : In 8448 (8320 ∷ 8192 ∷ []) → ⊥
+not_third i = elim i [ inl e ↦ omega (arith, e) | inr j ↦ elim j [ inl e ↦ omega (arith, e) | inr none ↦ none ] ]

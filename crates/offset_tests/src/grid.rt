@@ -1,9 +1,9 @@
-ghost use Rattle.std.specs.Prelude.{◌≡◌, ◌≢◌, ℕ, ◌+◌, ◌*◌, ◌/◌, ◌%◌, ◌^◌, ◌<◌, ◌≤◌, IfOk, length};
-ghost use Rattle.zone_region.specs.Words.{Words, word_at};
+ghost use Rattle.std.specs.Prelude.{◌≡◌, ◌≢◌, ℕ, ◌<◌, ◌≤◌, ◌^◌, IfOk, length};
 ghost use Rattle.zone_region.specs.Entries.{words_in};
 ghost use Rattle.offset_tree.specs.Keys.{IsForm, rank_of};
-ghost use Rattle.offset_tests.specs.Grid.{place_of, spelled, IsGrid, HasTree};
+ghost use Rattle.offset_tests.specs.Grid.{place_of, key_at, rank_at, HasTree};
 
+use crate::keys::Keys;
 use offset_tree::find::find;
 use offset_tree::init::init;
 use offset_tree::insert::insert;
@@ -11,7 +11,7 @@ use offset_tree::remove::remove;
 use offset_tree::tree::Tree;
 use std::alloc::Global;
 use std::sync::ledger::Ledger;
-use zone_key::Key;
+use zone_key::{Key, crc32};
 use zone_outside::NoMemory;
 use zone_region::blocks::{Block, Blocks};
 use zone_region::memory::MemBlocks;
@@ -25,58 +25,44 @@ pub fn place(k: u64) -> Block
     Block { at: 8192 + 128 * k }
 }
 
-/// The key of block `k`: the four bytes of the number, the highest first.
-pub fn key_of(alloc: Global, k: u64) -> Result<Key, NoMemory>
-    ensures { IfOk result (λ key. key ≡ spelled k) }
-{
-    let bytes = [
-        (k / 16777216 % 256) as u8,
-        (k / 65536 % 256) as u8,
-        (k / 256 % 256) as u8,
-        (k % 256) as u8,
-    ];
-    Key::of(alloc, bytes.as_slice())
-}
-
-/// The word of four bytes of which the lowest stands first.
-fn packed(k: u64) -> u64
-    ensures { result ≡ k / 16777216 % 256 + 256 * (k / 65536 % 256) + 65536 * (k / 256 % 256) + 16777216 * (k % 256) }
-{
-    k / 16777216 % 256 + 256 * (k / 65536 % 256) + 65536 * (k / 256 % 256) + 16777216 * (k % 256)
-}
-
-/// Writes the hash, the length and the key of block `k`.
-fn write_key(blocks: &mut MemBlocks, t: &Tree, k: u64)
+/// Writes the key of block `k`, its length and its CRC-32.
+fn write_key(blocks: &mut MemBlocks, t: &Tree, keys: &Keys, k: u64, key: &Key)
     requires form { IsForm t.now.form }
-    requires range { k < 2 ^ 32 }
+    requires range { k < length keys.now.numbers.items }
+    requires few { length keys.now.numbers.items ≤ 65536 }
+    requires short { keys.now.len ≤ 8 }
+    requires key { key.now ≡ key_at keys.now k }
     requires room { length (words_in blocks.old.entries.items (place_of k)) ≡ 16 }
     ensures lengths { (z : ℕ) → length (words_in blocks.new.entries.items z) ≡ length (words_in blocks.old.entries.items z) }
     ensures others { (z : ℕ) → z ≢ place_of k → words_in blocks.new.entries.items z ≡ words_in blocks.old.entries.items z }
-    ensures hash { word_at (words_in blocks.new.entries.items) (place_of k) 0 ≡ k % 5 }
-    ensures key { (rank_of (words_in blocks.new.entries.items) t.now.form (place_of k)).1 ≡ spelled k }
+    ensures rank { rank_of (words_in blocks.new.entries.items) t.now.form (place_of k) ≡ rank_at keys.now k }
 {
     let b = place(k);
-    blocks.set(b, 0, k % 5);
+    let number = keys.numbers[k as usize];
+    blocks.set(b, 0, u64::from(crc32(key.bytes())));
     if t.form.len_bytes == 2 {
-        blocks.set(b, 4, 4 * 65536);
-        blocks.set(b, 10, packed(k));
+        blocks.set(b, 4, keys.len * 65536);
+        blocks.set(b, 10, number);
     } else {
-        blocks.set(b, 4, 4 * 256 + packed(k) * 4294967296);
+        blocks.set(b, 4, keys.len * 256 + (number << 32));
+        blocks.set(b, 5, number >> 32);
     }
 }
 
-/// A grid of `n` blocks with their keys, and an empty tree.
-pub fn laid_out(alloc: Global, t: &Tree, n: u64) -> Result<MemBlocks, NoMemory>
+/// A grid of blocks with these keys, and an empty tree.
+pub fn laid_out(alloc: Global, t: &Tree, keys: &Keys) -> Result<MemBlocks, NoMemory>
     requires form { IsForm t.now.form }
     requires context { t.now.context.at ≡ 4096 }
-    requires few { n ≤ 65536 }
-    ensures { IfOk result (λ blocks. HasTree (words_in blocks.entries.items) t.now n) }
+    requires few { length keys.now.numbers.items ≤ 65536 }
+    requires short { keys.now.len ≤ 8 }
+    ensures { IfOk result (λ blocks. HasTree (words_in blocks.entries.items) t.now keys.now) }
 {
     let mut blocks = MemBlocks::new(alloc);
     blocks.add(alloc, t.context, 16)?;
-    for k in 0..n {
+    for k in 0..keys.numbers.len() as u64 {
+        let key = keys.key(alloc, k)?;
         blocks.add(alloc, place(k), 16)?;
-        write_key(&mut blocks, t, k);
+        write_key(&mut blocks, t, keys, k, &key);
     }
     init(&mut blocks, t);
     Ok(blocks)
@@ -86,18 +72,18 @@ pub fn laid_out(alloc: Global, t: &Tree, n: u64) -> Result<MemBlocks, NoMemory>
 pub fn toggle<B: Blocks, L: Ledger>(
     blocks: &mut B,
     t: &Tree,
-    n: u64,
+    keys: &Keys,
     k: u64,
     key: &Key,
     steps: &mut Steps<L>,
 ) -> bool
     requires form { IsForm t.now.form }
-    requires there { HasTree (B.words blocks.old) t.now n }
-    requires range { k < n }
-    requires key { key.now ≡ spelled k }
-    ensures { HasTree (B.words blocks.new) t.now n }
+    requires there { HasTree (B.words blocks.old) t.now keys.now }
+    requires range { k < length keys.now.numbers.items }
+    requires key { key.now ≡ key_at keys.now k }
+    ensures { HasTree (B.words blocks.new) t.now keys.now }
 {
-    match find(blocks, t, (k % 5) as u32, key, steps) {
+    match find(blocks, t, crc32(key.bytes()), key, steps) {
         Some(b) => {
             remove(blocks, t, b);
             false

@@ -2,6 +2,7 @@
 #![tactic(auto)]
 
 pub mod grid;
+pub mod keys;
 pub mod line;
 #[cfg(test)]
 mod tests;

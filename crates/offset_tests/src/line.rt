@@ -1,38 +1,92 @@
-ghost use Rattle.std.specs.Prelude.{[], ◌∷◌};
+ghost use Rattle.std.specs.Prelude.{ℕ, List, ◌∷◌};
+ghost use Rattle.zone_region.specs.Members.{In};
 ghost use Rattle.offset_queue.specs.Queue.{HoldsQueue};
+ghost use Rattle.offset_tests.specs.Line.{full, IsLine, HasLine};
 
 use offset_queue::calls::{init, last, move_front, push_front, remove};
 use offset_queue::queue::Queue;
+use zone_outside::NoMemory;
 use zone_region::blocks::{Block, Blocks};
 
-/// Puts the blocks at 8192, 8320 and 8448 into a queue, moves and removes them, and lists what stood at the back.
-pub fn exercise<B: Blocks>(blocks: &mut B, q: &Queue) -> [Option<Block>; 7]
-    requires { HoldsQueue (B.words blocks.old) q.now 5 (8192 ∷ 8320 ∷ 8448 ∷ []) }
+/// A place in a full queue.
+#[derive(Clone, Copy, Debug)]
+pub enum Spot {
+    Back,
+    Middle,
+    Front,
+}
+
+/// What is done to a full queue.
+#[derive(Clone, Copy, Debug)]
+pub enum Change {
+    Nothing,
+    ToFront(Spot),
+    Out(Spot),
+}
+
+/// The block at this place of a full queue.
+fn block_at(spot: Spot) -> Block
+    ensures { In result.at full }
+{
+    match spot {
+        Spot::Back => Block { at: 8192 },
+        Spot::Middle => Block { at: 8320 },
+        Spot::Front => Block { at: 8448 },
+    }
+}
+
+/// Puts a block of the three in at the front.
+fn push<B: Blocks>(blocks: &mut B, q: &Queue, b: Block)
+    requires one { In b.at full }
+    requires there { ((xs : List ℕ) × IsLine (B.words blocks.old) q.now xs × (In b.at xs → ⊥)) }
+    ensures { (xs : List ℕ) → IsLine (B.words blocks.old) q.now xs → (In b.at xs → ⊥) →
+        IsLine (B.words blocks.new) q.now (b.at ∷ xs) }
+{
+    push_front(blocks, q, b, 5);
+}
+
+/// Makes a queue of the blocks at 8192, 8320 and 8448, which are put in in this order.
+pub fn fill<B: Blocks>(blocks: &mut B, q: &Queue)
+    requires { HoldsQueue (B.words blocks.old) q.now 5 full }
+    ensures { IsLine (B.words blocks.new) q.now full }
 {
     init(blocks, q);
-    let none = last(blocks, q, 5);
-    push_front(blocks, q, Block { at: 8192 }, 5);
-    push_front(blocks, q, Block { at: 8320 }, 5);
-    push_front(blocks, q, Block { at: 8448 }, 5);
-    let pushed = last(blocks, q, 5);
-    move_front(blocks, q, Block { at: 8192 }, 5);
-    let moved = last(blocks, q, 5);
-    remove(blocks, q, Block { at: 8448 }, 5);
-    let without_middle = last(blocks, q, 5);
-    remove(blocks, q, Block { at: 8192 }, 5);
-    let without_front = last(blocks, q, 5);
-    move_front(blocks, q, Block { at: 8320 }, 5);
-    remove(blocks, q, Block { at: 8320 }, 5);
-    let emptied = last(blocks, q, 5);
-    push_front(blocks, q, Block { at: 8448 }, 5);
-    let filled = last(blocks, q, 5);
-    [
-        none,
-        pushed,
-        moved,
-        without_middle,
-        without_front,
-        emptied,
-        filled,
-    ]
+    push(blocks, q, Block { at: 8192 });
+    push(blocks, q, Block { at: 8320 });
+    push(blocks, q, Block { at: 8448 });
+}
+
+/// Changes a full queue.
+pub fn apply<B: Blocks>(blocks: &mut B, q: &Queue, change: Change)
+    requires { IsLine (B.words blocks.old) q.now full }
+    ensures { HasLine (B.words blocks.new) q.now }
+{
+    match change {
+        Change::Nothing => {}
+        Change::ToFront(spot) => move_front(blocks, q, block_at(spot), 5),
+        Change::Out(spot) => remove(blocks, q, block_at(spot), 5),
+    }
+}
+
+/// Takes the block at the back out of the queue, if there is one.
+fn take_last<B: Blocks>(blocks: &mut B, q: &Queue) -> Option<Block>
+    requires { HasLine (B.words blocks.old) q.now }
+    ensures { HasLine (B.words blocks.new) q.now }
+{
+    let b = last(blocks, q, 5)?;
+    remove(blocks, q, b, 5);
+    Some(b)
+}
+
+/// Takes at most three blocks out of the queue, each from the back, and lists them in this order.
+pub fn drain<B: Blocks>(blocks: &mut B, q: &Queue, order: &mut Vec<u64>) -> Result<(), NoMemory>
+    requires { HasLine (B.words blocks.old) q.now }
+    ensures { HasLine (B.words blocks.new) q.now }
+{
+    for _ in 0..3 {
+        if let Some(b) = take_last(blocks, q) {
+            order.push(b.at)?;
+        }
+    }
+    Ok(())
 }

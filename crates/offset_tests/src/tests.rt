@@ -1,10 +1,11 @@
-ghost use Rattle.std.specs.Prelude.{◌≡◌, ◌<◌};
+ghost use Rattle.std.specs.Prelude.{◌≡◌, ◌+◌, ◌<◌, ◌≤◌, length};
 ghost use Rattle.zone_region.specs.Entries.{words_in};
 ghost use Rattle.offset_tree.specs.Keys.{IsForm};
 ghost use Rattle.offset_tests.specs.Grid.{HasTree, small_tree};
 
-use crate::grid::{key_of, laid_out, place, toggle};
-use crate::line::exercise;
+use crate::grid::{laid_out, place, toggle};
+use crate::keys::{Keys, colliding, counted, multiple};
+use crate::line::{Change, Spot, apply, drain, fill};
 use crate::walk::{Part, peek, walk};
 use offset_queue::queue::Queue;
 use offset_tree::find::find;
@@ -14,6 +15,8 @@ use std::marker::Brand;
 use std::process::Abort;
 use std::sync::ledger::{Blank, Ledger};
 use std::test::Fail;
+use zone_key::crc32;
+use zone_outside::NoMemory;
 use zone_region::blocks::Block;
 use zone_region::counted::CountedBlocks;
 use zone_region::memory::MemBlocks;
@@ -50,23 +53,27 @@ fn connection_tree() -> Tree
     }
 }
 
-/// Looks for key `k` among a thousand, and counts the reads from outside.
+/// Looks for key `k` among a thousand, and counts the reads from outside. The steps rise by at most 105.
 fn seek<L: Ledger, R: Abort>(
     rt: &R,
     alloc: Global,
     blocks: &CountedBlocks,
     t: &Tree,
+    keys: &Keys,
     k: u64,
     inside: bool,
     steps: &mut Steps<L>,
 ) -> Result<(), Fail>
     requires form { IsForm t.now.form }
-    requires there { HasTree (words_in blocks.now.blocks.entries.items) t.now 1000 }
+    requires there { HasTree (words_in blocks.now.blocks.entries.items) t.now keys.now }
+    requires count { length keys.now.numbers.items ≡ 1000 }
+    requires len { keys.now.len ≡ 4 }
     requires range { k < 1000 }
+    ensures cost { steps.new ≤ steps.old + 105 }
 {
-    let key = key_of(alloc, k)?;
+    let key = keys.key(alloc, k)?;
     let before = blocks.reads();
-    let found = find(blocks, t, (k % 5) as u32, &key, steps);
+    let found = find(blocks, t, crc32(key.bytes()), &key, steps);
     let reads = blocks.reads().wrapping_sub(before);
     let want = if inside { Some(place(k)) } else { None };
     assert_eq!(rt; found, want, "at {k}");
@@ -83,29 +90,56 @@ fn thousand<L: Ledger, R: Abort>(rt: &R, alloc: Global, t: &Tree, blank: Blank) 
     requires context { t.now.context.at ≡ 4096 }
 {
     let mut steps = Steps::<L>::new(blank);
-    let mut blocks = CountedBlocks::new(laid_out(alloc, t, 1000)?);
+    let keys = counted(alloc, 1000)?;
+    let mut blocks = CountedBlocks::new(laid_out(alloc, t, &keys)?);
     for added in 0..1000u64 {
-        let key = key_of(alloc, added)?;
-        assert!(rt; toggle(&mut blocks, t, 1000, added, &key, &mut steps));
+        let key = keys.key(alloc, added)?;
+        assert!(rt; toggle(&mut blocks, t, &keys, added, &key, &mut steps));
     }
     for k in 0..1000u64 {
-        seek(rt, alloc, &blocks, t, k, true, &mut steps)?;
+        seek(rt, alloc, &blocks, t, &keys, k, true, &mut steps)?;
     }
     for half in 0..500u64 {
-        let key = key_of(alloc, 2 * half)?;
-        assert!(rt; !toggle(&mut blocks, t, 1000, 2 * half, &key, &mut steps));
+        let key = keys.key(alloc, 2 * half)?;
+        assert!(rt; !toggle(&mut blocks, t, &keys, 2 * half, &key, &mut steps));
     }
     for left in 0..1000u64 {
-        seek(rt, alloc, &blocks, t, left, left % 2 == 1, &mut steps)?;
+        seek(
+            rt,
+            alloc,
+            &blocks,
+            t,
+            &keys,
+            left,
+            left % 2 == 1,
+            &mut steps,
+        )?;
     }
     Ok(())
 }
 
-/// The tree is red-black, and its blocks are those that are said to be there, by hash and then by key.
+/// The numbers of the keys in the order of their CRC-32 and then of their bytes, each with its CRC-32.
+///
+/// Keys have one length, so they are in order as numbers whose highest byte is the key's first.
+fn sorted(alloc: Global, keys: &Keys) -> Result<Vec<(u32, u64, u64)>, NoMemory>
+    requires short { keys.now.len ≤ 8 }
+{
+    let mut order = Vec::new(alloc);
+    for k in 0..keys.numbers.len() as u64 {
+        let key = keys.key(alloc, k)?;
+        let by_bytes = keys.numbers[k as usize].swap_bytes();
+        order.push((crc32(key.bytes()), by_bytes, k))?;
+    }
+    order.sort_unstable();
+    Ok(order)
+}
+
+/// The tree is red-black, and its blocks are those that are said to be there, in this order.
 fn compare<R: Abort>(
     rt: &R,
     alloc: Global,
     blocks: &MemBlocks,
+    sorted: &[(u32, u64, u64)],
     inside: &[bool],
 ) -> Result<(), Fail> {
     let mut order = Vec::new(alloc);
@@ -117,18 +151,16 @@ fn compare<R: Abort>(
     let height = walk(blocks, 4120, whole, 64, &mut order)?;
     assert!(rt; height.is_some());
     let mut want = Vec::new(alloc);
-    for hash in 0..5u64 {
-        for k in 0..64u64 {
-            if k % 5 == hash && inside.get(k as usize) == Some(&true) {
-                want.push(8192 + 128 * k)?;
-            }
+    for (_, _, k) in sorted {
+        if inside.get(*k as usize) == Some(&true) {
+            want.push(8192 + 128 * (*k % 64))?;
         }
     }
     assert!(rt; order.as_slice() == want.as_slice());
     Ok(())
 }
 
-/// Two thousand random changes of a tree of at most 64 blocks, of which many have one hash.
+/// Two thousand random changes of a tree of at most 64 blocks, of which sixteen have one hash.
 fn random_run<L: Ledger, R: Abort>(
     rt: &R,
     alloc: Global,
@@ -142,7 +174,9 @@ fn random_run<L: Ledger, R: Abort>(
     requires context { t.now.context.at ≡ 4096 }
 {
     let mut steps = Steps::<L>::new(blank);
-    let mut blocks = laid_out(alloc, t, 64)?;
+    let keys = colliding(alloc)?;
+    let order = sorted(alloc, &keys)?;
+    let mut blocks = laid_out(alloc, t, &keys)?;
     let mut inside = vec![in alloc; false; 64]?;
     let mut seed = 1u64;
     for step in 0..2000u64 {
@@ -150,13 +184,30 @@ fn random_run<L: Ledger, R: Abort>(
             .wrapping_mul(6364136223846793005)
             .wrapping_add(1442695040888963407);
         let k = seed / 8589934592 % 64;
-        let key = key_of(alloc, k)?;
-        let now = toggle(&mut blocks, t, 64, k, &key, &mut steps);
+        let key = keys.key(alloc, k)?;
+        let now = toggle(&mut blocks, t, &keys, k, &key, &mut steps);
         if let Some(was) = inside.get_mut(k as usize) {
             assert!(rt; *was != now);
             *was = now;
         }
-        compare(rt, alloc, &blocks, inside.as_slice())?;
+        compare(rt, alloc, &blocks, order.as_slice(), inside.as_slice())?;
+    }
+    Ok(())
+}
+
+/// Key `k` of the random run has the CRC-32 of the key whose first byte is `k % 4` and whose other bytes are 0, so
+/// sixteen keys have one hash; and no two keys are equal.
+#[test]
+fn keys_collide(rt: HostRuntime) -> Result<(), Fail> {
+    let alloc = rt.alloc();
+    assert_eq!(rt; multiple(1).to_le_bytes(), *b"A\x06q\xDB\x01\0\0\0");
+    assert_eq!(rt; crc32(b"A\x06q\xDB\x01"), crc32(b"\0\0\0\0\0"));
+    let order = sorted(alloc, &colliding(alloc)?)?;
+    for (hash, _, k) in &order {
+        assert_eq!(rt; *hash, crc32(&[(*k % 4) as u8, 0, 0, 0, 0]));
+    }
+    for (key, next) in order.iter().zip(order.iter().skip(1)) {
+        assert!(rt; (key.0, key.1) < (next.0, next.1));
     }
     Ok(())
 }
@@ -207,7 +258,7 @@ const TURNED: [Wanted; 13] = [
     (8448, 4, 262145),
 ];
 
-/// Block 2 in the place of block 1, which keeps its hash and its key.
+/// Block 2 in the place of block 1, which keeps its hash, the CRC-32 of 0, 0, 0, 1, and its key.
 const REPLACED: [Wanted; 9] = [
     (4096, 0, 8448),
     (8448, 1, 8192),
@@ -216,7 +267,7 @@ const REPLACED: [Wanted; 9] = [
     (8448, 4, 262144),
     (8192, 3, 8448),
     (8192, 4, 262145),
-    (8320, 0, 1),
+    (8320, 0, 1447292810),
     (8320, 10, 16777216),
 ];
 
@@ -240,35 +291,86 @@ fn change<L: Ledger, R: Abort>(
     rt: &R,
     alloc: Global,
     blocks: &mut MemBlocks,
+    keys: &Keys,
     k: u64,
     wanted: &[Wanted],
     steps: &mut Steps<L>,
 ) -> Result<(), Fail>
-    requires there { HasTree (words_in blocks.old.entries.items) small_tree 3 }
-    requires range { k < 3 }
-    ensures { HasTree (words_in blocks.new.entries.items) small_tree 3 }
+    requires there { HasTree (words_in blocks.old.entries.items) small_tree keys.now }
+    requires range { k < length keys.now.numbers.items }
+    requires short { keys.now.len ≤ 8 }
+    ensures { HasTree (words_in blocks.new.entries.items) small_tree keys.now }
 {
-    let key = key_of(alloc, k)?;
-    toggle(blocks, &request_tree(), 3, k, &key, steps);
+    let key = keys.key(alloc, k)?;
+    toggle(blocks, &request_tree(), keys, k, &key, steps);
     compare_words(rt, blocks, wanted);
     Ok(())
 }
 
-/// Three blocks put in by rising keys, the middle one taken out, and then the others: words worked out by hand.
+/// Three blocks put in by rising hashes, the middle one taken out, and then the others: words worked out by hand.
 fn three_blocks<L: Ledger, R: Abort>(rt: &R, alloc: Global, blank: Blank) -> Result<(), Fail>
     requires name { blank.name ≡ L.name }
     requires parts { blank.parts ≡ L.parts }
     requires some { 0 < L.parts }
 {
     let mut steps = Steps::<L>::new(blank);
-    let mut blocks = laid_out(alloc, &request_tree(), 3)?;
+    let keys = counted(alloc, 3)?;
+    let mut blocks = laid_out(alloc, &request_tree(), &keys)?;
     compare_words(rt, &blocks, EMPTY.as_slice());
-    change(rt, alloc, &mut blocks, 0, ROOT.as_slice(), &mut steps)?;
-    change(rt, alloc, &mut blocks, 1, RED_CHILD.as_slice(), &mut steps)?;
-    change(rt, alloc, &mut blocks, 2, TURNED.as_slice(), &mut steps)?;
-    change(rt, alloc, &mut blocks, 1, REPLACED.as_slice(), &mut steps)?;
-    change(rt, alloc, &mut blocks, 0, ROOT_ALONE.as_slice(), &mut steps)?;
-    change(rt, alloc, &mut blocks, 2, EMPTY.as_slice(), &mut steps)
+    change(
+        rt,
+        alloc,
+        &mut blocks,
+        &keys,
+        0,
+        ROOT.as_slice(),
+        &mut steps,
+    )?;
+    change(
+        rt,
+        alloc,
+        &mut blocks,
+        &keys,
+        1,
+        RED_CHILD.as_slice(),
+        &mut steps,
+    )?;
+    change(
+        rt,
+        alloc,
+        &mut blocks,
+        &keys,
+        2,
+        TURNED.as_slice(),
+        &mut steps,
+    )?;
+    change(
+        rt,
+        alloc,
+        &mut blocks,
+        &keys,
+        1,
+        REPLACED.as_slice(),
+        &mut steps,
+    )?;
+    change(
+        rt,
+        alloc,
+        &mut blocks,
+        &keys,
+        0,
+        ROOT_ALONE.as_slice(),
+        &mut steps,
+    )?;
+    change(
+        rt,
+        alloc,
+        &mut blocks,
+        &keys,
+        2,
+        EMPTY.as_slice(),
+        &mut steps,
+    )
 }
 
 #[test]
@@ -276,18 +378,31 @@ fn small_trees(rt: HostRuntime) -> Result<(), Fail> {
     three_blocks::<Brand, HostRuntime>(&rt, rt.alloc(), Blank::new(1))
 }
 
+/// A queue is filled, changed, and emptied from the back, and this again for each change.
 #[test]
 fn queue_of_three(rt: HostRuntime) -> Result<(), Fail> {
+    let alloc = rt.alloc();
     let t = request_tree();
-    let mut blocks = laid_out(rt.alloc(), &t, 3)?;
+    let mut blocks = laid_out(alloc, &t, &counted(alloc, 3)?)?;
     let q = Queue {
         head: t.context,
         at: 8,
     };
-    let seen = exercise(&mut blocks, &q);
-    let wanted = [0, 8192, 8320, 8320, 8320, 0, 8448];
-    for (found, want) in seen.iter().zip(wanted.iter()) {
-        assert_eq!(rt; found.map_or(0, |b| b.at), *want);
+    let rows = [
+        (Change::Nothing, [8192u64, 8320, 8448].as_slice()),
+        (Change::ToFront(Spot::Back), &[8320, 8448, 8192]),
+        (Change::ToFront(Spot::Middle), &[8192, 8448, 8320]),
+        (Change::ToFront(Spot::Front), &[8192, 8320, 8448]),
+        (Change::Out(Spot::Back), &[8320, 8448]),
+        (Change::Out(Spot::Middle), &[8192, 8448]),
+        (Change::Out(Spot::Front), &[8192, 8320]),
+    ];
+    for (change, want) in rows {
+        fill(&mut blocks, &q);
+        apply(&mut blocks, &q, change);
+        let mut order = Vec::new(alloc);
+        drain(&mut blocks, &q, &mut order)?;
+        assert_eq!(rt; order.as_slice(), want, "{change:?}");
     }
     Ok(())
 }

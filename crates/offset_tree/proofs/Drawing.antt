@@ -2,7 +2,7 @@
 use Rattle.std.proofs.Common.{ℕ, ◌≡◌, ◌≢◌, ◌+◌, ◌*◌, ◌^◌, ◌<◌, ◌≤◌, zero, suc, Bool, true, false, List, [], ◌∷◌, ◌++◌, length, sym, ap, subst, ◌∙◌, refl, arith, inl, inr}
 use Rattle.zone_region.specs.Words.{Words, word_at}
 use Rattle.offset_tree.specs.declared.tree.Tree.{Tree}
-use Rattle.offset_tree.specs.Members.{In, IsDistinct}
+use Rattle.zone_region.specs.Members.{In, IsDistinct}
 use Rattle.offset_tree.specs.Keys.{Rank, HoldsKey, IsOrdered}
 use Rattle.offset_tree.specs.Layout.{LaysPart, empty, red, black, LaysTree, IsContext, HoldsTree, IsTree, CanInsert}
 use Rattle.offset_tree.specs.Changes.{MakesEmpty}
@@ -12,7 +12,7 @@ use Rattle.offset_tree.specs.Balance.{red_of, IsBalanced, Settled}
 use Rattle.offset_tree.specs.Trees.{IsDrawn}
 use Rattle.offset_tree.specs.Inserting.{IsInsertable}
 use Rattle.offset_tree.proofs.Frames.{hits_in}
-use Rattle.offset_tree.proofs.MembersLemmas.{times, times-distinct, hits-times}
+use Rattle.offset_tree.proofs.TimesLemmas.{times, times-distinct, hits-times}
 
 -- a drawn tree that lies as the blocks do
 pub record Drawing (m : Words) (nil : ℕ) (xs : List ℕ) (o p : ℕ) (c : Bool) (h : ℕ) : Type 0 where

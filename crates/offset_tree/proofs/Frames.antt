@@ -4,12 +4,12 @@ use Rattle.std.proofs.lemmas.Bool.{cases_eq}
 use Rattle.zone_region.specs.Words.{Words, word_at, SetsWord}
 use Rattle.zone_region.proofs.WordLemmas.{word_at-set_block, word_at-set_index, length-set_word}
 use Rattle.offset_tree.specs.Shape.{Shape, leaf, node, blocks_of, hits}
-use Rattle.offset_tree.specs.Members.{In}
+use Rattle.zone_region.specs.Members.{In}
 use Rattle.offset_tree.specs.Links.{SetsTwo, SetsParent, Replaces}
 use Rattle.offset_tree.specs.Moves.{ChangesTree}
 use Rattle.offset_tree.specs.Changes.{ChangesNodes}
 use Rattle.offset_tree.proofs.ShapeLemmas.{one-other}
-use Rattle.offset_tree.proofs.MembersLemmas.{In-append_left, In-append_right}
+use Rattle.zone_region.proofs.MembersLemmas.{In-append_left, In-append_right}
 use Rattle.offset_tree.proofs.LiesLemmas.{same_word}
 use Rattle.offset_tree.proofs.Writes.{two_other, two_length}
 

@@ -11,7 +11,7 @@ use Rattle.offset_tree.specs.declared.tree.Form.{Form}
 use Rattle.offset_tree.specs.declared.side.Side.{Side}
 use Rattle.offset_tree.specs.declared.side.Side.TheVariants.{Left, Right}
 use Rattle.offset_tree.specs.Shape.{Shape, leaf, node, Path, top, step, plug, blocks_of, hits}
-use Rattle.offset_tree.specs.Members.{In, IsDistinct}
+use Rattle.zone_region.specs.Members.{In, IsDistinct}
 use Rattle.offset_tree.specs.Links.{number_of, Lies, IsShape}
 use Rattle.offset_tree.specs.Balance.{red_of, IsBalanced, IsPathBalanced, depth_of, Settled, Rising}
 use Rattle.offset_tree.specs.Changes.{ChangesNodes}
@@ -20,7 +20,7 @@ use Rattle.offset_tree.specs.Attaching.{Gap}
 use Rattle.offset_tree.specs.Trees.{IsDrawn}
 use Rattle.offset_tree.specs.Inserting.{Descending, Opening, IsInsertable}
 use Rattle.offset_tree.proofs.ShapeLemmas.{one-same, hits-plug}
-use Rattle.offset_tree.proofs.MembersLemmas.{In-append_cases, In-one_more, IsDistinct-join}
+use Rattle.zone_region.proofs.MembersLemmas.{In-append_cases, In-one_more, IsDistinct-join}
 use Rattle.offset_tree.proofs.BalanceLemmas.{placed_balanced}
 use Rattle.offset_tree.proofs.SearchLemmas.{rank_total, ordered_at, child_balanced, tree_height}
 use Rattle.offset_tree.proofs.Drawing.{lays_of, holds_same}

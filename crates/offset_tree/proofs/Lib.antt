@@ -1,5 +1,5 @@
 pub mod ShapeLemmas
-pub mod MembersLemmas
+pub mod TimesLemmas
 pub mod BoundLemmas
 pub mod LiesLemmas
 pub mod Writes

@@ -3,12 +3,12 @@ use Rattle.std.proofs.Common.{ℕ, ◌≢◌, List, [], ◌∷◌, ◌++◌, sub
 use Rattle.zone_region.specs.Words.{Words}
 use Rattle.offset_tree.specs.declared.tree.Tree.{Tree}
 use Rattle.offset_tree.specs.declared.tree.Form.{Form}
-use Rattle.offset_tree.specs.Members.{In, IsDistinct}
+use Rattle.zone_region.specs.Members.{In, IsDistinct}
 use Rattle.offset_tree.specs.Keys.{IsForm, AllAfter, IsOrdered}
 use Rattle.offset_tree.specs.Changes.{ChangesNodes}
 use Rattle.offset_tree.specs.Layout.{IsTree}
 use Rattle.offset_tree.specs.Balance.{Settled}
-use Rattle.offset_tree.proofs.MembersLemmas.{In-more, IsDistinct-split}
+use Rattle.zone_region.proofs.MembersLemmas.{In-more, IsDistinct-split}
 use Rattle.offset_tree.proofs.InsertLemmas.{rank_same, holds_key_same, ordered_same}
 use Rattle.offset_tree.proofs.Drawing.{lays_of, holds_same}
 

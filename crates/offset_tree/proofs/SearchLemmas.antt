@@ -14,14 +14,14 @@ use Rattle.offset_tree.specs.declared.tree.Tree.{Tree}
 use Rattle.offset_tree.specs.declared.tree.Form.{Form}
 use Rattle.offset_tree.specs.declared.side.Side.TheVariants.{Left, Right}
 use Rattle.offset_tree.specs.Shape.{Shape, leaf, node, Path, top, step, plug, blocks_of, hits}
-use Rattle.offset_tree.specs.Members.{In}
+use Rattle.zone_region.specs.Members.{In}
 use Rattle.offset_tree.specs.Links.{number_of, Lies, IsShape}
 use Rattle.offset_tree.specs.Balance.{red_of, IsBalanced, depth_of}
 use Rattle.offset_tree.specs.Keys.{Rank, rank_cmp, rank_of, HoldsKey, AllAfter, IsOrdered}
 use Rattle.offset_tree.specs.Trees.{IsDrawn, Searching, Sought}
 use Rattle.std.proofs.Math.Nat.{mul-le-mul_right}
 use Rattle.offset_tree.proofs.ShapeLemmas.{one-same, hits-plug}
-use Rattle.offset_tree.proofs.MembersLemmas.{In-append_left, In-append_right, In-append_cases}
+use Rattle.zone_region.proofs.MembersLemmas.{In-append_left, In-append_right, In-append_cases}
 use Rattle.offset_tree.proofs.Count.{depth_bound}
 
 pub rank_total : IsTotalOrder rank_cmp

@@ -11,7 +11,7 @@ use Rattle.offset_tree.proofs.ShapeLemmas.{one-same, one-other, hits-plug}
 use Rattle.offset_tree.proofs.LiesLemmas.{same_word, LiesAround-same, Lies-plug, Lies-reparent}
 use Rattle.offset_tree.proofs.Writes.{parent_length, replace_length, replace_other, hits_root, replaced}
 use Rattle.offset_tree.proofs.Paints.{around_of, with_colour-low, with_colour-high}
-use Rattle.offset_tree.specs.Members.{In}
+use Rattle.zone_region.specs.Members.{In}
 use Rattle.offset_tree.specs.Changes.{ChangesNodes}
 use Rattle.offset_tree.proofs.Frames.{nodes_changed, nodes_changed_twice, nodes_more, changes_parent, changes_slot}
 use Rattle.offset_tree.proofs.TurnLemmas.{around_parent}

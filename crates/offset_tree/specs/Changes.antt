@@ -1,7 +1,7 @@
 -- What the calls of a tree leave alone.
 use Rattle.std.specs.Prelude.{ℕ, ◌≡◌, ◌≢◌, ◌⊎◌, ◌+◌, ◌/◌, ◌≤◌, List, length}
 use Rattle.zone_region.specs.Words.{Words, word_at}
-use Rattle.offset_tree.specs.Members.{In}
+use Rattle.zone_region.specs.Members.{In}
 
 -- Only the links and colours of these blocks changed (words 1 to 3 and the low byte of word 4), and the context's root word.
 pub record ChangesNodes (old new : Words) (context : ℕ) (xs : List ℕ) : Type 0 where

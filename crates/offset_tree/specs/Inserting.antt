@@ -5,7 +5,7 @@ use Rattle.zone_region.specs.Words.{Words, word_at}
 use Rattle.offset_tree.specs.declared.side.Side.{Side}
 use Rattle.offset_tree.specs.declared.tree.Tree.{Tree}
 use Rattle.offset_tree.specs.Shape.{Shape, leaf, Path, plug, blocks_of}
-use Rattle.offset_tree.specs.Members.{In}
+use Rattle.zone_region.specs.Members.{In}
 use Rattle.offset_tree.specs.Links.{Lies, IsShape}
 use Rattle.offset_tree.specs.Balance.{IsPathBalanced, depth_of}
 use Rattle.offset_tree.specs.Keys.{Rank, rank_cmp, rank_of, key_of, HoldsKey, IsOrdered}

@@ -1,8 +1,8 @@
 -- How a tree of blocks lies in words.
 use Rattle.std.specs.Prelude.{ℕ, ◌≡◌, ◌≢◌, ◌⊎◌, ◌+◌, ◌*◌, ◌%◌, ◌^◌, ◌<◌, ◌≤◌, suc, Bool, true, false, List, [], ◌∷◌, ◌++◌, length}
-use Rattle.zone_region.specs.Words.{Words, word_at}
+use Rattle.zone_region.specs.Words.{Words, word_at, IsApart}
 use Rattle.offset_tree.specs.declared.tree.Tree.{Tree}
-use Rattle.offset_tree.specs.Members.{In, IsDistinct}
+use Rattle.zone_region.specs.Members.{In, IsDistinct}
 use Rattle.offset_tree.specs.Keys.{rank_of, key_of, HoldsKey, IsOrdered}
 use Rattle.offset_tree.specs.Changes.{ChangesNodes}
 
@@ -21,10 +21,6 @@ pub record LaysTree (m : Words) (t : Tree) (xs : List ℕ) : Type 0 where
   pub height : ℕ
   pub lies : LaysPart m (t.context.at + 24) xs (word_at m t.context.at 0) 0 false height
   pub ordered : IsOrdered m t.form xs
-
--- the bytes of the two blocks don't overlap
-abbrev pub IsApart : Words → ℕ → ℕ → Type 0
-IsApart m x y = (x + 8 * length (m x) ≤ y) ⊎ (y + 8 * length (m y) ≤ x)
 
 -- The context is live and has room for the root and the sentinel, above offset 0 and below 2^63.
 pub record IsContext (m : Words) (t : Tree) : Type 0 where

@@ -1,4 +1,6 @@
-pub mod Members
+pub use Rattle.zone_key.specs.Order
+pub use Rattle.zone_region.specs.Members
+pub use Rattle.zone_region.specs.Words
 pub mod Keys
 pub mod Changes
 pub mod Layout

@@ -3,7 +3,7 @@ use Rattle.std.specs.Prelude.{ℕ, ◌≡◌, ◌+◌, ◌*◌, ◌^◌, ◌≤�
 use Rattle.zone_region.specs.Words.{Words}
 use Rattle.offset_tree.specs.declared.tree.Tree.{Tree}
 use Rattle.offset_tree.specs.Shape.{Shape, Path, plug, blocks_of}
-use Rattle.offset_tree.specs.Members.{In}
+use Rattle.zone_region.specs.Members.{In}
 use Rattle.offset_tree.specs.Links.{number_of, Lies, IsShape}
 use Rattle.offset_tree.specs.Balance.{red_of, IsBalanced, depth_of, Settled}
 use Rattle.offset_tree.specs.Keys.{Rank, rank_of, HoldsKey, IsOrdered}

@@ -1,5 +1,5 @@
 ghost use Rattle.std.specs.Prelude.{◌≡◌, ◌≢◌, ℕ, ◌+◌, ◌≤◌, List, length, MatchOption};
-ghost use Rattle.offset_tree.specs.Members.{In};
+ghost use Rattle.zone_region.specs.Members.{In};
 ghost use Rattle.offset_tree.specs.Keys.{IsForm, rank_of};
 ghost use Rattle.offset_tree.specs.Layout.{IsTree};
 ghost use Rattle.offset_tree.specs.Bounds.{search_cost};

@@ -1,6 +1,6 @@
 ghost use Rattle.std.specs.Prelude.{◌≡◌, ◌≢◌, ℕ, ◌+◌, ◌^◌, ◌<◌, ◌≤◌, List, ◌∷◌, ◌++◌, length};
 ghost use Rattle.zone_region.specs.Words.{word_at};
-ghost use Rattle.offset_tree.specs.Members.{In};
+ghost use Rattle.zone_region.specs.Members.{In};
 ghost use Rattle.offset_tree.specs.Keys.{IsForm};
 ghost use Rattle.offset_tree.specs.Layout.{IsTree};
 ghost use Rattle.offset_tree.specs.Shape.{blocks_of};

@@ -1,3 +1,4 @@
+pub use Rattle.slab_model.specs.Geometry
 pub mod Amount
 pub mod Table
 pub mod Memory

@@ -1,3 +1,6 @@
+pub use Rattle.slab_model.specs.Geometry
+pub use Rattle.slab_model.specs.Runs
+pub use Rattle.slab_model.specs.Slab
 pub mod Places
 pub mod Layout
 pub mod Steps

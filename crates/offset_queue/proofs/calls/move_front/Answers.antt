@@ -1,6 +1,6 @@
 use Rattle.std.proofs.Common.{ℕ, List, ◌++◌, sym, subst}
 use Rattle.offset_queue.specs.Queue.{IsQueue, ChangesLinks}
-use Rattle.offset_queue.proofs.FollowsLemmas.{In-split}
+use Rattle.zone_region.proofs.MembersLemmas.{In-split}
 use Rattle.offset_queue.proofs.Steps.{removed_holds, moved_changes, In-middle}
 use Rattle.offset_queue.proofs.calls.move_front.Goals as goal
 

@@ -1,5 +1,5 @@
 use Rattle.std.proofs.Common.{ℕ, ◌∷◌, sym, subst, inr, arith}
-use Rattle.offset_queue.specs.Follows.{In}
+use Rattle.zone_region.specs.Members.{In}
 use Rattle.offset_queue.specs.Queue.{head_link, entry_links}
 use Rattle.offset_queue.proofs.QueueLemmas.{all_places, writes_prev, In-entry_links}
 use Rattle.offset_queue.proofs.Steps.{beside, removed_changes, removed_lays}

@@ -1,7 +1,7 @@
 use Rattle.std.proofs.Common.{ℕ, List, sym, subst}
 use Rattle.offset_tree.specs.Layout.{IsTree}
 use Rattle.offset_tree.specs.Changes.{ChangesNodes}
-use Rattle.offset_tree.proofs.MembersLemmas.{In-split}
+use Rattle.zone_region.proofs.MembersLemmas.{In-split}
 use Rattle.offset_tree.proofs.Drawing.{drawn, ends_of}
 use Rattle.offset_tree.proofs.RemovedLemmas.{removed_tree}
 use Rattle.offset_tree.proofs.remove.remove_with.Goals as goal

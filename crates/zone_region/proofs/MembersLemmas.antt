@@ -1,9 +1,6 @@
 -- Members of lists that are joined and split.
-use Rattle.std.proofs.Common.{ℕ, ◌≡◌, ◌⊎◌, ◌+◌, ◌≤◌, List, [], ◌∷◌, ◌++◌, sym, ap, subst, refl, arith, inl, inr}
-use Rattle.std.proofs.lemmas.Bool.{cases_eq}
-use Rattle.offset_tree.specs.Members.{In, IsDistinct}
-use Rattle.offset_tree.specs.Shape.{Shape, leaf, node, one, hits, blocks_of}
-use Rattle.offset_tree.proofs.ShapeLemmas.{one-same, one-other}
+use Rattle.std.proofs.Common.{ℕ, ◌≡◌, ◌⊎◌, List, [], ◌∷◌, ◌++◌, sym, ap, refl, inl, inr}
+use Rattle.zone_region.specs.Members.{In, IsDistinct}
 
 pub In-append_left : (a : ℕ) (xs ys : List ℕ) → In a xs → In a (xs ++ ys)
 In-append_left a [] ys h = absurd h
@@ -52,27 +49,3 @@ pub IsDistinct-join : (xs : List ℕ) (a : ℕ) (ys : List ℕ) → IsDistinct (
 IsDistinct-join [] a ys d n = (n, d)
 IsDistinct-join (x ∷ xs) a ys d n =
     (λ h. elim (In-one_more x xs a ys h) [ inl e ↦ n (inl (sym e)) | inr i ↦ d.0 i ], IsDistinct-join xs a ys d.1 (λ h. n (inr h)))
-
--- how often a block stands in a list
-abbrev pub times : ℕ → List ℕ → ℕ
-times z [] = 0
-times z (x ∷ xs) = one z x + times z xs
-
-pub times-append : (z : ℕ) (xs ys : List ℕ) → times z (xs ++ ys) ≡ times z xs + times z ys
-times-append z [] ys = omega arith
-times-append z (x ∷ xs) ys = omega (arith, times-append z xs ys)
-
-pub times-none : (z : ℕ) (xs : List ℕ) → (In z xs → ⊥) → times z xs ≡ 0
-times-none z [] n = refl
-times-none z (x ∷ xs) n = omega (arith, one-other z x (λ e. n (inl e)), times-none z xs (λ i. n (inr i)))
-
-pub times-distinct : (z : ℕ) (xs : List ℕ) → IsDistinct xs → times z xs ≤ 1
-times-distinct z [] d = omega arith
-times-distinct z (x ∷ xs) d = elim (cases_eq z x) [
-  | inl e ↦ omega (arith, one-same z x e, times-none z xs (λ i. d.0 (subst (λ (q : ℕ). In q xs) e i)))
-  | inr ne ↦ omega (arith, one-other z x ne, times-distinct z xs d.1)
-]
-
-pub hits-times : (z : ℕ) (t : Shape) → hits z t ≡ times z (blocks_of t)
-hits-times z leaf = refl
-hits-times z (node c a x b) = omega (arith, hits-times z a, hits-times z b, times-append z (blocks_of a) (x ∷ blocks_of b))

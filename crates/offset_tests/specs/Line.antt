@@ -1,0 +1,21 @@
+-- Three blocks of the grid, some of them in a queue.
+use Rattle.std.specs.Prelude.{ℕ, List, [], ◌∷◌}
+use Rattle.zone_region.specs.Words.{Words}
+use Rattle.zone_region.specs.Members.{In}
+use Rattle.offset_queue.specs.declared.queue.Queue.{Queue}
+use Rattle.offset_queue.specs.Queue.{HoldsQueue, IsQueue}
+
+-- the first three blocks of the grid, in a queue in which the last one is at the front
+abbrev pub full : List ℕ
+full = 8448 ∷ 8320 ∷ 8192 ∷ []
+
+-- The three blocks can be entries of the queue, and its list is `xs`, which are some of them.
+pub record IsLine (m : Words) (q : Queue) (xs : List ℕ) : Type 0 where
+  pub room : HoldsQueue m q 5 full
+  pub within : (x : ℕ) → In x xs → In x full
+  pub queue : IsQueue m q 5 xs
+
+-- Its list is some list.
+pub record HasLine (m : Words) (q : Queue) : Type 0 where
+  pub blocks : List ℕ
+  pub line : IsLine m q blocks
