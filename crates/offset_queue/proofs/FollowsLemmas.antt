@@ -1,8 +1,8 @@
 -- Chains of links under one more or one less.
-use Rattle.std.proofs.Common.{ℕ, ◌≡◌, ◌≢◌, ◌⊎◌, List, [], ◌∷◌, ◌++◌, reverse, inl, inr, sym, ap, subst, ◌∙◌, refl, append_assoc}
+use Rattle.std.proofs.Common.{ℕ, ◌≡◌, ◌≢◌, List, [], ◌∷◌, ◌++◌, reverse, inl, inr, sym, ap, subst, ◌∙◌, refl, append_assoc}
 use Rattle.std.proofs.lemmas.List.{reverse-append, reverse-reverse, append-nil}
 use Rattle.zone_region.specs.Members.{In, IsDistinct}
-use Rattle.zone_region.proofs.MembersLemmas.{In-append_left, In-append_right, In-append_cases, IsDistinct-split, IsDistinct-join}
+use Rattle.zone_region.proofs.MembersLemmas.{In-append_left, In-append_cases, IsDistinct-join}
 use Rattle.offset_queue.specs.Follows.{Follows}
 
 -- the first element, or `e` where there is none

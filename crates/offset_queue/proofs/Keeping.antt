@@ -1,10 +1,9 @@
 -- For callers: what a change of other words leaves of a queue.
-use Rattle.std.proofs.Common.{ℕ, ◌≡◌, ◌≢◌, ◌+◌, ◌-◌, ◌*◌, ◌≤◌, List, [], ◌∷◌, reverse, length, inl, inr, sym, ap, subst, ◌∙◌, refl, arith, get_or}
-use Rattle.zone_region.specs.Words.{Words, word_at, IsApart}
+use Rattle.std.proofs.Common.{ℕ, ◌≡◌, ◌≢◌, ◌+◌, ◌*◌, List, [], ◌∷◌, reverse, length, inl, inr, sym, ap, subst, ◌∙◌, refl, arith, get_or}
+use Rattle.zone_region.specs.Words.{Words, word_at}
 use Rattle.offset_queue.specs.declared.queue.Queue.{Queue}
 use Rattle.zone_region.specs.Members.{In}
-use Rattle.offset_queue.specs.Follows.{Follows}
-use Rattle.offset_queue.specs.Queue.{head_link, entry_links, block_of, index_of, prev_of, next_of, LaysQueue, HoldsQueue, IsQueue}
+use Rattle.offset_queue.specs.Queue.{head_link, entry_links, block_of, index_of, prev_of, next_of, HoldsQueue, IsQueue}
 use Rattle.offset_queue.proofs.FollowsLemmas.{Follows-same, In-reverse}
 use Rattle.offset_queue.proofs.QueueLemmas.{block_of-head, block_of-entry, index_of-head, index_of-entry, distinct_places}
 

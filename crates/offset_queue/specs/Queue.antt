@@ -1,5 +1,5 @@
 -- How a queue lies in words.
-use Rattle.std.specs.Prelude.{ℕ, ◌≡◌, ◌≢◌, ◌⊎◌, ◌+◌, ◌-◌, ◌*◌, ◌^◌, ◌<◌, ◌≤◌, List, [], ◌∷◌, map, reverse, length, if◌then◌else◌, ◌==◌, Option, Some, None}
+use Rattle.std.specs.Prelude.{ℕ, ◌≡◌, ◌≢◌, ◌+◌, ◌-◌, ◌*◌, ◌^◌, ◌<◌, ◌≤◌, List, [], ◌∷◌, map, reverse, length, if◌then◌else◌, ◌==◌, Option, Some, None}
 use Rattle.zone_region.specs.Words.{Words, word_at, IsApart}
 use Rattle.offset_queue.specs.declared.queue.Queue.{Queue}
 use Rattle.zone_region.specs.Members.{In, IsDistinct}

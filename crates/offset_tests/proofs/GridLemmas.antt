@@ -1,14 +1,14 @@
 -- Trees of blocks of a grid.
-use Rattle.std.proofs.Common.{ℕ, ◌≡◌, ◌≢◌, ◌⊎◌, ◌+◌, ◌*◌, ◌/◌, ◌%◌, ◌^◌, ◌<◌, ◌≤◌, zero, suc, List, [], ◌∷◌, ◌++◌, length, slice_index, sym, ap, subst, ◌∙◌, refl, arith, inl, inr}
+use Rattle.std.proofs.Common.{ℕ, ◌≡◌, ◌≢◌, ◌⊎◌, ◌+◌, ◌*◌, ◌/◌, ◌^◌, ◌<◌, ◌≤◌, zero, suc, List, [], ◌∷◌, ◌++◌, length, slice_index, sym, ap, subst, ◌∙◌, refl, arith, inl, inr}
 use Rattle.std.proofs.lemmas.Bool.{cases_eq, cases_order}
 use Rattle.std.proofs.lemmas.List.{length-replicate, length-append}
 use Rattle.std.proofs.lemmas.Nat.{pow_below}
-use Rattle.zone_region.specs.Words.{Words, word_at}
+use Rattle.zone_region.specs.Words.{Words}
 use Rattle.zone_region.specs.Entries.{AddsBlock}
 use Rattle.zone_key.specs.Crc.{crc32_of}
 use Rattle.offset_tree.specs.declared.tree.Tree.{Tree}
 use Rattle.zone_region.specs.Members.{In, IsDistinct}
-use Rattle.offset_tree.specs.Keys.{Rank, rank_of, key_of, key_len, bytes_of, IsForm, HoldsKey}
+use Rattle.offset_tree.specs.Keys.{Rank, rank_of, key_len, bytes_of, IsForm, HoldsKey}
 use Rattle.offset_tree.specs.Bounds.{bits, search_cost}
 use Rattle.offset_tree.proofs.BoundLemmas.{bits-high}
 use Rattle.offset_tree.specs.Changes.{ChangesNodes, MakesEmpty}

@@ -1,5 +1,5 @@
 -- A key that is written into the words of a node.
-use Rattle.std.proofs.Common.{ℕ, ◌≡◌, ◌+◌, ◌*◌, ◌/◌, ◌%◌, ◌^◌, ◌<◌, ◌≤◌, zero, suc, List, [], ◌∷◌, length, take, slice_index, ap, subst, sym, ◌∙◌, refl, arith, inl, inr, ◌≢◌}
+use Rattle.std.proofs.Common.{ℕ, ◌≡◌, ◌+◌, ◌*◌, ◌/◌, ◌%◌, ◌^◌, ◌<◌, ◌≤◌, zero, suc, List, ◌∷◌, length, take, slice_index, ap, subst, sym, ◌∙◌, refl, arith, inl, inr, ◌≢◌}
 use Rattle.std.proofs.lemmas.List.{length-take}
 use Rattle.std.specs.Int.{w64, byte_at, bytes_low_first, to_le_bytes}
 use Rattle.zone_region.specs.Words.{Words, word_at, SetsWord}

@@ -1,11 +1,11 @@
 -- Some of three blocks in a queue.
-use Rattle.std.proofs.Common.{ℕ, ◌≡◌, List, [], ◌∷◌, ◌++◌, Some, None, refl, arith, inl, inr, subst, sym, ap, ◌∙◌}
+use Rattle.std.proofs.Common.{ℕ, ◌≡◌, List, [], ◌∷◌, ◌++◌, Some, None, refl, arith, inl, inr, subst, sym, ap}
 use Rattle.std.proofs.lemmas.Option.{none-some}
 use Rattle.zone_region.specs.Words.{Words}
-use Rattle.zone_region.specs.Members.{In, IsDistinct}
-use Rattle.zone_region.proofs.MembersLemmas.{In-more, In-one_more, In-middle}
+use Rattle.zone_region.specs.Members.{In}
+use Rattle.zone_region.proofs.MembersLemmas.{In-more, In-middle}
 use Rattle.offset_queue.specs.declared.queue.Queue.{Queue}
-use Rattle.offset_queue.specs.Queue.{IsHead, HoldsQueue, LaysQueue, IsQueue, ChangesLinks, last_entry}
+use Rattle.offset_queue.specs.Queue.{IsHead, HoldsQueue, IsQueue, ChangesLinks, last_entry}
 use Rattle.offset_queue.proofs.Steps.{holds_kept}
 use Rattle.offset_tests.specs.Line.{full, IsLine}
 

@@ -1,12 +1,12 @@
 -- For callers: what a change of other words leaves of a tree.
-use Rattle.std.proofs.Common.{ℕ, ◌≡◌, ◌≢◌, ◌⊎◌, ◌+◌, ◌*◌, ◌/◌, ◌%◌, ◌^◌, ◌<◌, ◌≤◌, zero, suc, Bool, true, false, List, [], ◌∷◌, ◌++◌, length, sym, ap, subst, ◌∙◌, refl, arith, inl, inr}
+use Rattle.std.proofs.Common.{ℕ, ◌≡◌, ◌+◌, ◌*◌, ◌/◌, ◌%◌, ◌^◌, ◌≤◌, zero, suc, Bool, false, List, ◌∷◌, length, sym, ap, subst, ◌∙◌, refl, arith, inl, inr}
 use Rattle.std.proofs.lemmas.Bool.{cases_eq}
-use Rattle.zone_region.specs.Words.{Words, word_at, IsApart}
+use Rattle.zone_region.specs.Words.{Words, word_at}
 use Rattle.offset_tree.specs.declared.tree.Tree.{Tree}
 use Rattle.offset_tree.specs.declared.tree.Form.{Form}
 use Rattle.zone_region.specs.Members.{In}
-use Rattle.offset_tree.specs.Keys.{Rank, byte_of, bytes_of, key_len, key_of, rank_of, IsForm, HoldsKey, IsOrdered}
-use Rattle.offset_tree.specs.Layout.{LaysPart, empty, red, black, LaysTree, HoldsTree, IsTree}
+use Rattle.offset_tree.specs.Keys.{Rank, byte_of, bytes_of, key_len, key_of, rank_of}
+use Rattle.offset_tree.specs.Layout.{LaysPart, empty, red, black, IsTree}
 use Rattle.zone_region.proofs.MembersLemmas.{In-append_left, In-append_right, In-middle}
 use Rattle.offset_tree.proofs.LiesLemmas.{same_word}
 use Rattle.offset_tree.proofs.InsertLemmas.{ordered_same}

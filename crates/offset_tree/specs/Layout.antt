@@ -1,5 +1,5 @@
 -- How a tree of blocks lies in words.
-use Rattle.std.specs.Prelude.{ℕ, ◌≡◌, ◌≢◌, ◌⊎◌, ◌+◌, ◌*◌, ◌%◌, ◌^◌, ◌<◌, ◌≤◌, suc, Bool, true, false, List, [], ◌∷◌, ◌++◌, length}
+use Rattle.std.specs.Prelude.{ℕ, ◌≡◌, ◌≢◌, ◌+◌, ◌*◌, ◌%◌, ◌^◌, ◌<◌, ◌≤◌, suc, Bool, true, false, List, [], ◌∷◌, ◌++◌, length}
 use Rattle.zone_region.specs.Words.{Words, word_at, IsApart}
 use Rattle.offset_tree.specs.declared.tree.Tree.{Tree}
 use Rattle.zone_region.specs.Members.{In, IsDistinct}

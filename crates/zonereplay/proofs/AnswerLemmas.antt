@@ -1,5 +1,5 @@
 -- The causes of the statuses.
-use Rattle.std.proofs.Common.{ℕ, ◌≡◌, ◌⊎◌, List, Option, Some, None, sym, subst, refl, inl, inr}
+use Rattle.std.proofs.Common.{ℕ, ◌≡◌, List, Option, Some, None, sym, subst, refl, inl, inr}
 use Rattle.std.specs.Prelude.{codes}
 use Rattle.std.specs.Io.KnownBytes.{Keeps}
 use Rattle.zonereplay.specs.declared.stop.Stop.{Stop}
@@ -7,7 +7,7 @@ use Rattle.zonereplay.specs.declared.stop.Stop.TheVariants.{ReadFault, TooLong, 
 use Rattle.zonereplay.specs.Plan.{Plan, Ends, Reaches, log_fault, usage}
 use Rattle.zonereplay.specs.Plan.Plan.{refuses}
 use Rattle.zonereplay.specs.Plan.End.{refused}
-use Rattle.zonereplay.specs.Answers.{Taken, Devices, Told, TakesNone, Due, Refused, ErrFault, WantOfMemory, Answers, IsFree, IsComplete}
+use Rattle.zonereplay.specs.Answers.{Devices, Told, TakesNone, Due, Answers, IsFree, IsComplete}
 use Rattle.zonereplay.specs.Answers.Answers.{done, told, out_failed, err_failed, no_memory}
 use Rattle.zonereplay.specs.Stops.{StopsBy, StopTold}
 

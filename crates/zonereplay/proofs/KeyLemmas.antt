@@ -1,8 +1,8 @@
 -- The lines of a log of keys, from the left.
-use Rattle.std.proofs.Common.{ℕ, ◌≡◌, ◌+◌, ◌<◌, ◌≤◌, Bool, true, false, cond, ltb, List, [], ◌∷◌, ◌++◌, length, Result, Ok, Err, Some, None, arith, ap, sym, subst, ◌∙◌, refl, append_assoc}
+use Rattle.std.proofs.Common.{ℕ, ◌≡◌, ◌+◌, ◌<◌, ◌≤◌, cond, ltb, List, [], ◌∷◌, ◌++◌, Result, Ok, Err, ap, sym, ◌∙◌, refl, append_assoc}
 use Rattle.std.proofs.lemmas.Bool.{le-ltb, lt-ltb}
 use Rattle.zonereplay.specs.declared.keys.KeyLine.{KeyLine}
-use Rattle.zonereplay.specs.Keys.{Fault, parts, ended, with_key, key_line, before_rest, keys_from, keys_of}
+use Rattle.zonereplay.specs.Keys.{Fault, parts, ended, key_line, before_rest, keys_from}
 use Rattle.zonereplay.proofs.PartLemmas.{some_part}
 
 -- words after the key are too many

@@ -1,17 +1,17 @@
 -- The lines of `one`, from the left.
-use Rattle.std.proofs.Common.{ℕ, ◌≡◌, ◌+◌, ◌<◌, ◌≤◌, Bool, true, false, cond, ltb, List, [], ◌∷◌, ◌++◌, length, Option, Some, None, arith, ap, sym, subst, ◌∙◌, refl, append_assoc}
+use Rattle.std.proofs.Common.{ℕ, ◌≡◌, ◌+◌, ◌≤◌, Bool, true, false, cond, ltb, List, [], ◌∷◌, ◌++◌, length, Option, Some, None, arith, ap, sym, subst, ◌∙◌, refl, append_assoc}
 use Rattle.std.proofs.lemmas.Bool.{ltb-false}
 use Rattle.req_zone.specs.declared.calls.ReqReply.{ReqReply}
 use Rattle.req_zone.specs.declared.calls.ReqReply.TheVariants.{Pass, Busy}
 use Rattle.req_zone.specs.Amount.{amount_of}
 use Rattle.req_zone.specs.Table.{Entry, entry_of, others}
-use Rattle.req_zone.specs.Memory.{Memory, State}
-use Rattle.req_zone.specs.Expiry.{first_leaving, forced_leaving, evict}
+use Rattle.req_zone.specs.Memory.{State}
+use Rattle.req_zone.specs.Expiry.{first_leaving, evict}
 use Rattle.req_zone.specs.Calls.{Call, Reply, reply_of}
 use Rattle.req_zone.specs.Calls.Call.{check}
-use Rattle.req_zone.specs.Calls.Reply.{pass, again, busy, no_room, accounted, released}
-use Rattle.req_zone.specs.Step.{node_size, step, replies_of, check_as, check_found, check_missing, after_first, after_second, by_force, new_reply, within_burst}
-use Rattle.req_zone.specs.Places.{places, opened, Zone, Answers}
+use Rattle.req_zone.specs.Calls.Reply.{pass, busy}
+use Rattle.req_zone.specs.Step.{node_size, step, replies_of, check_as, after_first, after_second, within_burst}
+use Rattle.req_zone.specs.Places.{places, Zone, Answers}
 use Rattle.zonereplay.specs.OneText.{delayed_excess, reply_line, reply_lines, checks}
 use Rattle.zonereplay.specs.declared.keys.KeyLine.{KeyLine}
 

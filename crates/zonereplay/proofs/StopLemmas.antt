@@ -1,14 +1,13 @@
 -- Stops and the plans that they stop.
-use Rattle.std.proofs.Common.{ℕ, ◌≡◌, ◌+◌, ◌<◌, ◌≤◌, Bool, true, false, cond, ltb, List, [], ◌∷◌, length, replicate, Option, Some, None, arith, ap, sym, subst, ◌∙◌, refl, suc}
+use Rattle.std.proofs.Common.{ℕ, ◌≡◌, ◌<◌, cond, List, length, replicate, Option, Some, None, arith, ap, sym, subst, refl, suc}
 use Rattle.std.specs.Prelude.{IfSome, codes}
 use Rattle.std.proofs.lemmas.Bool.{lt-ltb}
 use Rattle.std.proofs.lemmas.List.{length-replicate}
-use Rattle.zone_outside.specs.Faults.{Rose}
 use Rattle.zonereplay.specs.declared.stop.Stop.{Stop}
 use Rattle.zonereplay.specs.declared.stop.Stop.TheVariants.{ReadFault, TooLong, Log, NoMemory}
 use Rattle.zonereplay.specs.Words.{OneJob}
 use Rattle.zonereplay.specs.Keys.{keys_of}
-use Rattle.zonereplay.specs.Plan.{Plan, End, Ends, Tells, text_limit, in_limit, one_plan, one_run}
+use Rattle.zonereplay.specs.Plan.{Plan, Ends, Tells, text_limit, in_limit, one_plan, one_run}
 use Rattle.zonereplay.specs.Plan.Plan.{refuses}
 use Rattle.zonereplay.specs.Plan.End.{refused}
 use Rattle.zonereplay.specs.Stops.{StopsBy, TextStops}

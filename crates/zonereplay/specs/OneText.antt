@@ -6,7 +6,7 @@ use Rattle.req_zone.specs.declared.calls.ReqReply.TheVariants.{Pass, Busy}
 use Rattle.req_zone.specs.Amount.{delay_of}
 use Rattle.req_zone.specs.Calls.{Call, Reply}
 use Rattle.req_zone.specs.Calls.Call.{check}
-use Rattle.req_zone.specs.Calls.Reply.{pass, again, busy, no_room, accounted, released}
+use Rattle.req_zone.specs.Calls.Reply.{pass, busy, no_room}
 use Rattle.req_zone.specs.Step.{replies_of}
 use Rattle.req_zone.specs.Places.{places, opened}
 use Rattle.zonereplay.specs.declared.keys.KeyLine.{KeyLine}

@@ -1,5 +1,5 @@
 -- What a command does, by its words and by the texts that it reads.
-use Rattle.std.specs.Prelude.{ℕ, ◌≡◌, ◌+◌, nat_lt, List, [], ◌∷◌, ◌++◌, length, Option, Some, None, Result, Ok, Err, codes, decimal, if◌then◌else◌, ◌⊎◌}
+use Rattle.std.specs.Prelude.{ℕ, ◌≡◌, nat_lt, List, ◌++◌, length, Option, Some, None, Result, Ok, Err, codes, decimal, if◌then◌else◌, ◌⊎◌}
 use Rattle.zonereplay.specs.Words.{OneJob, one_of}
 use Rattle.zonereplay.specs.Keys.{Fault, keys_of}
 use Rattle.zonereplay.specs.declared.keys.KeyLine.{KeyLine}

@@ -1,5 +1,5 @@
 -- What the calls that read a log of keys answer. Want of memory says nothing.
-use Rattle.std.specs.Prelude.{ℕ, ◌≡◌, ◌<◌, ◌≤◌, ◌^◌, length, List, Option, Some, None, Result, Ok, Err}
+use Rattle.std.specs.Prelude.{ℕ, ◌≡◌, ◌<◌, ◌≤◌, ◌^◌, length, List, Some, None, Result, Ok, Err}
 use Rattle.std.specs.declared.vec.Vec.{Vec}
 use Rattle.std.specs.declared.alloc.Global.{Global}
 use Rattle.zone_outside.specs.declared.coded.DecodeFault.{DecodeFault}
@@ -9,7 +9,7 @@ use Rattle.zonereplay.specs.declared.keys.LineFault.{LineFault}
 use Rattle.zonereplay.specs.declared.keys.LineFault.TheVariants as in_line
 use Rattle.zonereplay.specs.declared.keys.LogFault.{LogFault}
 use Rattle.zonereplay.specs.declared.keys.LogFault.TheVariants as in_log
-use Rattle.zonereplay.specs.Keys.{Fault, parts, with_moment, key_of, key_line, keys_of}
+use Rattle.zonereplay.specs.Keys.{parts, with_moment, key_of, key_line, keys_of}
 
 -- a moment below 2^42 and a key of 1 to 48 bytes
 abbrev pub IsInLimits : KeyLine → Type 0

@@ -1,7 +1,7 @@
-use Rattle.std.proofs.Common.{ℕ, ◌≡◌, List, ◌∷◌, ◌++◌, subst}
+use Rattle.std.proofs.Common.{ℕ, List, subst}
 use Rattle.zone_region.specs.Members.{In}
 use Rattle.zone_region.proofs.MembersLemmas.{In-split}
-use Rattle.offset_tests.specs.Line.{full, IsLine, HasLine}
+use Rattle.offset_tests.specs.Line.{full, IsLine}
 use Rattle.offset_tests.proofs.LineLemmas.{line_moved, line_without}
 use Rattle.offset_tests.proofs.line.apply.Goals as goal
 

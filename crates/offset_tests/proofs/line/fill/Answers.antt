@@ -1,5 +1,4 @@
-use Rattle.std.proofs.Common.{[], ◌∷◌, refl, arith, inl, inr}
-use Rattle.offset_tests.specs.Line.{full, IsLine}
+use Rattle.std.proofs.Common.{[], ◌∷◌}
 use Rattle.offset_tests.proofs.LineLemmas.{head_of, line_start, not_second, not_third}
 use Rattle.offset_tests.proofs.line.fill.Goals as goal
 

@@ -1,7 +1,7 @@
-use Rattle.std.proofs.Common.{ℕ, ◌≡◌, List, ◌∷◌, ◌++◌, subst}
+use Rattle.std.proofs.Common.{ℕ, List, subst}
 use Rattle.zone_region.specs.Members.{In}
 use Rattle.zone_region.proofs.MembersLemmas.{In-split}
-use Rattle.offset_tests.specs.Line.{IsLine, HasLine}
+use Rattle.offset_tests.specs.Line.{IsLine}
 use Rattle.offset_tests.proofs.LineLemmas.{In-last_entry, line_without}
 use Rattle.offset_tests.proofs.line.take_last.Goals as goal
 

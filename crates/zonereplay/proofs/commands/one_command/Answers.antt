@@ -1,7 +1,6 @@
 use Rattle.std.proofs.Common.{◌≡◌, ap, sym, subst, refl, inl}
 use Rattle.zonereplay.specs.Plan.{Plan, plan_of, plan_for, one_plan}
 use Rattle.zonereplay.specs.Jobs.{asked}
-use Rattle.zonereplay.specs.Answers as answers
 use Rattle.zonereplay.specs.Answers.{devices, Answers}
 use Rattle.zonereplay.proofs.AnswerLemmas.{stop_answers, complete}
 use Rattle.zonereplay.proofs.commands.one_command.Goals as goal

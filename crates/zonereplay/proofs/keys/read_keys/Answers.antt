@@ -1,9 +1,9 @@
-use Rattle.std.proofs.Common.{◌≡◌, ◌∙◌, ◌<◌, ◌+◌, ap, List, ℕ, Option, Some, Ok, Err, Result, arith, sym, cond, ltb}
+use Rattle.std.proofs.Common.{◌∙◌, ◌+◌, ap, List, arith, sym}
 use Rattle.std.proofs.lemmas.List.Elements.{All-push}
 use Rattle.zonereplay.specs.Reading.{IsInLimits}
 use Rattle.zonereplay.specs.declared.keys.KeyLine.{KeyLine}
-use Rattle.zonereplay.specs.Keys.{Fault, parts, keys_from, key_line, before_rest}
-use Rattle.zonereplay.proofs.KeyLemmas.{after_keys, after_more, keys_more, line_too_many, line_counts}
+use Rattle.zonereplay.specs.Keys.{parts, keys_from, before_rest}
+use Rattle.zonereplay.proofs.KeyLemmas.{after_keys, after_more, line_too_many, line_counts}
 use Rattle.zonereplay.proofs.keys.read_keys.Goals as goal
 
 pub returns-then-line-gt-MOST_LINES-clause-value : goal.returns-then-line-gt-MOST_LINES-clause-value

@@ -1,6 +1,5 @@
-use Rattle.std.proofs.Common.{◌≡◌, ◌∙◌, ap, List, ℕ, Option, Some, Err, Result}
-use Rattle.zonereplay.specs.Keys.{with_moment, with_key, key_of, parts}
-use Rattle.zonereplay.specs.Reading.{GivesRest}
+use Rattle.std.proofs.Common.{◌∙◌, ap, List, ℕ, Option, Some}
+use Rattle.zonereplay.specs.Keys.{with_moment, with_key, parts}
 use Rattle.zonereplay.proofs.KeyLemmas.{too_many}
 use Rattle.zonereplay.proofs.keys.read_rest.Goals as goal
 use Rattle.zonereplay.proofs.keys.read_rest.Goals.{in-Ok-read_key, in-Err-Badly-read_key, in-Err-NoMemory-read_key}

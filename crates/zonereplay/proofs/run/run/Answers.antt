@@ -1,4 +1,4 @@
-use Rattle.std.proofs.Common.{◌≡◌, ap, refl}
+use Rattle.std.proofs.Common.{ap, refl}
 use Rattle.zonereplay.specs.Plan.{plan_of, plan_for}
 use Rattle.zonereplay.specs.Answers.{devices}
 use Rattle.zonereplay.proofs.AnswerLemmas.{usage_answers, complete}
