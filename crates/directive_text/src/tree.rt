@@ -15,5 +15,6 @@ pub struct Directive {
 /// The directives of a text, in its order.
 #[derive(Debug, Drop)]
 pub struct Tree {
+    /// The directives that stand in no block.
     pub directives: Items<Directive>,
 }

@@ -1,7 +1,9 @@
 -- Trees of blocks of a grid.
 use Rattle.std.proofs.Common.{ℕ, ◌≡◌, ◌≢◌, ◌⊎◌, ◌+◌, ◌*◌, ◌/◌, ◌^◌, ◌<◌, ◌≤◌, zero, suc, List, [], ◌∷◌, ◌++◌, length, slice_index, sym, ap, subst, ◌∙◌, refl, arith, inl, inr}
-use Rattle.std.proofs.lemmas.Bool.{cases_eq, cases_order}
-use Rattle.std.proofs.lemmas.List.{length-replicate, length-append}
+use Rattle.std.proofs.lemmas.Bool.{cases_eq, cases_lt, cases_order}
+use Rattle.std.proofs.lemmas.List.{length-replicate, length-append, length-take-le}
+use Rattle.std.specs.Int.{w64, to_le_bytes}
+use Rattle.std.proofs.Math.Nat.{mul-le-mul_right}
 use Rattle.std.proofs.lemmas.Nat.{pow_below}
 use Rattle.zone_region.specs.Words.{Words}
 use Rattle.zone_region.specs.Entries.{AddsBlock}
@@ -10,7 +12,7 @@ use Rattle.offset_tree.specs.declared.tree.Tree.{Tree}
 use Rattle.zone_region.specs.Members.{In, IsDistinct}
 use Rattle.offset_tree.specs.Keys.{Rank, rank_of, key_len, bytes_of, IsForm, HoldsKey}
 use Rattle.offset_tree.specs.Bounds.{bits, search_cost}
-use Rattle.offset_tree.proofs.BoundLemmas.{bits-high}
+use Rattle.offset_tree.proofs.BoundLemmas.{bits-low, bits-high}
 use Rattle.offset_tree.specs.Changes.{ChangesNodes, MakesEmpty}
 use Rattle.offset_tree.specs.Layout.{IsContext, IsTree, CanInsert, Inserted}
 use Rattle.zone_region.proofs.MembersLemmas.{In-one_more, In-more, In-split, IsDistinct-split}
@@ -20,7 +22,7 @@ use Rattle.offset_queue.specs.declared.queue.Queue.{Queue}
 use Rattle.offset_queue.specs.Queue.{HoldsQueue}
 use Rattle.offset_tests.specs.Line.{full}
 use Rattle.offset_tests.specs.declared.keys.Keys.{Keys}
-use Rattle.offset_tests.specs.Grid.{place_of, key_at, rank_at, IsGrid, HasTree}
+use Rattle.offset_tests.specs.Grid.{place_of, key_at, rank_at, IsGrid, HasTree, LacksKey}
 use Rattle.offset_tests.proofs.KeyLemmas.{length-low}
 
 -- the context, or a block of the grid
@@ -146,12 +148,16 @@ grid_context m t keys n g =
     record { room = omega (arith, head); above = omega (arith, g.context); below = omega (arith, head, g.context) }
 
 -- the same at the values that the code has
-pub can_insert_at : (m : Words) (t : Tree) (keys : Keys) (k b hash : ℕ) (key : List ℕ) → IsForm t.form → (h : HasTree m t keys) → k < length keys.numbers.items → b ≡ place_of k → key ≡ key_at keys k → hash ≡ crc32_of key →
-    ((x : ℕ) → In x h.blocks → rank_of m t.form x ≢ (hash, key)) → CanInsert m t b key h.blocks
-can_insert_at m t keys k b hash key form h l at same crc none =
+pub can_insert_at : (m : Words) (t : Tree) (keys : Keys) (k b : ℕ) (key : List ℕ) → IsForm t.form → (l : LacksKey m t keys k) → k < length keys.numbers.items → b ≡ place_of k → key ≡ key_at keys k → CanInsert m t b key l.there.blocks
+can_insert_at m t keys k b key form l range at same =
+    subst (λ (z : ℕ). CanInsert m t z key l.there.blocks) (sym at) (subst (λ (bs : List ℕ). CanInsert m t (place_of k) bs l.there.blocks) (sym same)
+    (can_insert m t keys k form l.there range l.absent))
+
+-- a search that finds nothing
+pub lacks_key : (m : Words) (t : Tree) (keys : Keys) (k hash : ℕ) (key : List ℕ) → (h : HasTree m t keys) → key ≡ key_at keys k → hash ≡ crc32_of key → ((x : ℕ) → In x h.blocks → rank_of m t.form x ≢ (hash, key)) → LacksKey m t keys k
+lacks_key m t keys k hash key h same crc none =
     let rank : rank_at keys k ≡ (hash, key) = ap (λ (bs : List ℕ). let p : Rank = (crc32_of bs, bs) in p) (sym same) ∙ ap (λ (a : ℕ). let p : Rank = (a, key) in p) (sym crc) in
-    subst (λ (z : ℕ). CanInsert m t z key h.blocks) (sym at) (subst (λ (bs : List ℕ). CanInsert m t (place_of k) bs h.blocks) (sym same)
-    (can_insert m t keys k form h l (λ x i e. none x i (e ∙ rank))))
+    record { there = h; absent = λ x i e. none x i (e ∙ rank) }
 
 pub tree_with_at : (m n : Words) (t : Tree) (keys : Keys) (k b : ℕ) → IsForm t.form → (h : HasTree m t keys) → k < length keys.numbers.items → b ≡ place_of k → Inserted m n t b h.blocks → HasTree n t keys
 tree_with_at m n t keys k b form h l at i = tree_with m n t keys k form h l (subst (λ (z : ℕ). Inserted m n t z h.blocks) at i)
@@ -215,18 +221,47 @@ few_blocks (suc n) xs d at = elim (is_in (place_of n) xs) [
   below : (m x : ℕ) → x ≢ place_of m → (k : ℕ) × (k < suc m) × (x ≡ place_of k) → (k : ℕ) × (k < m) × (x ≡ place_of k)
   below m x ne p = (p.0, omega (arith, p.1, λ (e : p.0 ≡ m). ne (p.2 ∙ ap (λ k. place_of k) e)), p.2)
 
--- what a search among at most a thousand keys of four bytes costs
-pub cost_of_thousand : (n len : ℕ) → n ≤ 1000 → len ≡ 4 → search_cost n len ≤ 105
+bits-rises : (a b : ℕ) → a ≢ 0 → a ≤ b → bits a ≤ bits b
+bits-rises a b some le =
+    let high = bits-high a some in
+    let low : b < 2 ^ bits b = elim (cases_lt b (2 ^ bits b)) [ inl l ↦ l | inr ge ↦ absurd (omega (arith, bits-low b (bits b) ge)) ] in
+    let twice : 2 ^ suc (bits b) ≡ 2 * 2 ^ bits b = omega arith in
+    elim (cases_order (bits a) (suc (bits b))) [
+      | inl e ↦ absurd (let p : 2 ^ bits a ≡ 2 ^ suc (bits b) = ap (λ (x : ℕ). 2 ^ x) e in omega (arith, p, high, low, twice, le))
+      | inr other ↦ elim other [ inl less ↦ omega (arith, less) | inr more ↦ absurd (omega (arith, pow_below (suc (bits b)) (bits a) more, high, low, twice, le)) ]
+    ]
+
+-- a search among more blocks costs no less
+pub cost-rises : (n most len : ℕ) → n ≤ most → search_cost n len ≤ search_cost most len
 unfolding search_cost
-cost_of_thousand n len few four =
-    let high : 2 ^ bits (n + 1) ≤ 2002 = omega (arith, few, bits-high (n + 1) (λ e. omega (arith, e))) in
-    let ten = at_most_ten (bits (n + 1)) high in
-    subst (λ (l : ℕ). (2 * bits (n + 1) + 1) * (5 + l / 8) ≤ 105) (sym four) (omega (arith, ten)) where
-      at_most_ten : (b : ℕ) → 2 ^ b ≤ 2002 → b ≤ 10
-      at_most_ten b h = elim (cases_order b 11) [
-        | inl e ↦ absurd (let p : 2 ^ 11 ≤ 2002 = subst (λ (x : ℕ). 2 ^ x ≤ 2002) e h in omega (arith, p))
-        | inr other ↦ elim other [ inl low ↦ omega (arith, low) | inr high ↦ absurd (omega (arith, h, pow_below 11 b high)) ]
-      ]
+cost-rises n most len le =
+    let b = bits-rises (n + 1) (most + 1) (λ e. omega (arith, e)) (omega (arith, le)) in
+    let more : 2 * bits (n + 1) + 1 ≤ 2 * bits (most + 1) + 1 = omega (arith, b) in
+    mul-le-mul_right (5 + len / 8) more
+
+-- what searches in the rows cost
+pub cost_of_thousand : search_cost 1000 4 ≡ 105
+unfolding search_cost bits
+cost_of_thousand = refl
+
+pub cost_of_colliding : search_cost 64 5 ≡ 75
+unfolding search_cost bits
+cost_of_colliding = refl
+
+pub cost_at : (n m len l most : ℕ) → n ≡ m → len ≡ l → search_cost m l ≡ most → search_cost n len ≤ most
+cost_at n m len l most en el e =
+    let same : search_cost n len ≡ search_cost m l = ap (λ (x : ℕ). search_cost x len) en ∙ ap (λ (x : ℕ). search_cost m x) el in
+    omega (arith, same, e)
+
+length-key_at : (keys : Keys) (k : ℕ) → keys.len ≤ 8 → length (key_at keys k) ≡ keys.len
+length-key_at keys k le = length-take-le keys.len (to_le_bytes w64 (slice_index keys.numbers.items k)) (omega (arith, le))
+
+-- a search in the grid's tree
+pub search_bound : (m : Words) (t : Tree) (keys : Keys) (k : ℕ) (key : List ℕ) → (h : HasTree m t keys) → keys.len ≤ 8 → key ≡ key_at keys k → search_cost (length h.blocks) (length key) ≤ search_cost (length keys.numbers.items) keys.len
+search_bound m t keys k key h le same =
+    let few = few_blocks (length keys.numbers.items) h.blocks h.tree.holds.distinct.1 h.places in
+    let len : length key ≡ keys.len = ap (λ bs. length bs) same ∙ length-key_at keys k le in
+    subst (λ (l : ℕ). search_cost (length h.blocks) l ≤ search_cost (length keys.numbers.items) keys.len) (sym len) (cost-rises (length h.blocks) (length keys.numbers.items) keys.len few)
 
 -- the first three blocks of a grid can be in a queue whose head is in the context
 pub grid_queue : (m : Words) (t : Tree) (q : Queue) (keys : Keys) (n : ℕ) → IsGrid m t keys n → 3 ≤ n → q.head.at ≡ 4096 → q.at ≡ 8 → HoldsQueue m q 5 full

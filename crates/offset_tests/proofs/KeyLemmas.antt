@@ -51,7 +51,7 @@ request_bytes m z v e (suc (suc (suc (suc (suc (suc zero)))))) l = omega (arith,
 request_bytes m z v e (suc (suc (suc (suc (suc (suc (suc zero))))))) l = omega (arith, e)
 request_bytes m z v e (suc (suc (suc (suc (suc (suc (suc (suc j)))))))) l = absurd (omega (arith, l))
 
-pub connection_bytes : (m : Words) (z v len : ℕ) → len ≤ 8 → word_at m z 4 ≡ len * 256 + v * 4294967296 % 18446744073709551616 → word_at m z 5 ≡ v / 4294967296 → HasBytes m z 36 v
+pub connection_bytes : (m : Words) (z v len : ℕ) → len ≤ 8 → word_at m z 4 ≡ len * 256 + 196608 + v * 4294967296 % 18446744073709551616 → word_at m z 5 ≡ v / 4294967296 → HasBytes m z 36 v
 connection_bytes m z v len le e f zero l = omega (arith, le, e)
 connection_bytes m z v len le e f (suc zero) l = omega (arith, le, e)
 connection_bytes m z v len le e f (suc (suc zero)) l = omega (arith, le, e)
@@ -89,7 +89,7 @@ request_rank o f z v len hash form two le s = elim form.len_place [
   | inr c ↦ absurd (omega (arith, two, c.1))
 ]
 
-pub connection_rank : (o : Words) (f : Form) (z v len hash : ℕ) → IsForm f → f.len_bytes ≢ 2 → len ≤ 8 → SetsThree o z 0 hash 4 (len * 256 + v * 4294967296 % 18446744073709551616) 5 (v / 4294967296) → rank_of o f z ≡ (hash, take len (to_le_bytes w64 v))
+pub connection_rank : (o : Words) (f : Form) (z v len hash : ℕ) → IsForm f → f.len_bytes ≢ 2 → len ≤ 8 → SetsThree o z 0 hash 4 (len * 256 + 196608 + v * 4294967296 % 18446744073709551616) 5 (v / 4294967296) → rank_of o f z ≡ (hash, take len (to_le_bytes w64 v))
 connection_rank o f z v len hash form other le s = elim form.len_place [
   | inl r ↦ absurd (other r.1)
   | inr c ↦

@@ -1,13 +1,16 @@
 -- Some of three blocks in a queue.
-use Rattle.std.proofs.Common.{ℕ, ◌≡◌, List, [], ◌∷◌, ◌++◌, Some, None, refl, arith, inl, inr, subst, sym, ap}
+use Rattle.std.proofs.Common.{ℕ, true, false, ◌≡◌, List, [], ◌∷◌, ◌++◌, Some, None, refl, arith, inl, inr, subst, sym, ap, ◌∙◌}
 use Rattle.std.proofs.lemmas.Option.{none-some}
+use Rattle.std.specs.Option.{is_some, option_map}
+use Rattle.std.specs.declared.option.Option.{Option}
+use Rattle.zone_region.specs.declared.blocks.Block.{Block}
 use Rattle.zone_region.specs.Words.{Words}
 use Rattle.zone_region.specs.Members.{In}
 use Rattle.zone_region.proofs.MembersLemmas.{In-more, In-middle}
 use Rattle.offset_queue.specs.declared.queue.Queue.{Queue}
 use Rattle.offset_queue.specs.Queue.{IsHead, HoldsQueue, IsQueue, ChangesLinks, last_entry}
 use Rattle.offset_queue.proofs.Steps.{holds_kept}
-use Rattle.offset_tests.specs.Line.{full, IsLine}
+use Rattle.offset_tests.specs.Line.{full, IsLine, HasLine}
 
 pub head_of : (m : Words) (q : Queue) → HoldsQueue m q 5 full → IsHead m q
 head_of m q h = record { room = h.head; above = h.above q.head.at (inl refl); below = h.below q.head.at (inl refl) }
@@ -62,3 +65,18 @@ not_second i = elim i [ inl e ↦ omega (arith, e) | inr none ↦ none ]
 
 pub not_third : In 8448 (8320 ∷ 8192 ∷ []) → ⊥
 not_third i = elim i [ inl e ↦ omega (arith, e) | inr j ↦ elim j [ inl e ↦ omega (arith, e) | inr none ↦ none ] ]
+
+last_some : (x : ℕ) (xs : List ℕ) → (b : ℕ) × (last_entry (x ∷ xs) ≡ Some b)
+last_some x [] = (x, refl)
+last_some x (y ∷ ys) = last_some y ys
+
+last_none : (xs : List ℕ) → None ≡ last_entry xs → xs ≡ []
+last_none [] e = refl
+last_none (x ∷ xs) e = let s = last_some x xs in absurd (none-some s.0 (e ∙ s.1))
+
+-- without a block at the back the queue is empty
+pub line_emptied : (m : Words) (q : Queue) (h : HasLine m q) (back : Option Block) → is_some back ≡ false → option_map (λ b. b.at) back ≡ last_entry h.blocks → IsLine m q []
+line_emptied m q h None none e = subst (λ (xs : List ℕ). IsLine m q xs) (last_none h.blocks e) h.line
+line_emptied m q h (Some b) none e = absurd (no none) where
+  no : true ≡ false → ⊥
+  no tf = cc

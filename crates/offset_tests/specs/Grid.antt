@@ -1,5 +1,5 @@
 -- Blocks of equal size in a row, each with a key of its own, and a tree of some of them.
-use Rattle.std.specs.Prelude.{ℕ, ◌≡◌, ◌+◌, ◌*◌, ◌<◌, ◌≤◌, List, length, take, slice_index}
+use Rattle.std.specs.Prelude.{ℕ, ◌≡◌, ◌≢◌, ◌+◌, ◌*◌, ◌<◌, ◌≤◌, List, length, take, slice_index}
 use Rattle.std.specs.Int.{w64, to_le_bytes}
 use Rattle.zone_key.specs.Crc.{crc32_of}
 use Rattle.zone_region.specs.Words.{Words}
@@ -36,6 +36,7 @@ pub record HasTree (m : Words) (t : Tree) (keys : Keys) : Type 0 where
   pub tree : IsTree m t blocks
   pub places : (x : ℕ) → In x blocks → (k : ℕ) × (k < length keys.numbers.items) × (x ≡ place_of k)
 
--- a tree of request nodes whose context is at 4096
-abbrev pub small_tree : Tree
-small_tree = record { context = record { at = 4096 }; form = record { len_at = 34; len_bytes = 2; key_at = 80 } }
+-- No block of the tree has the key of block `k`.
+pub record LacksKey (m : Words) (t : Tree) (keys : Keys) (k : ℕ) : Type 0 where
+  pub there : HasTree m t keys
+  pub absent : (x : ℕ) → In x there.blocks → rank_of m t.form x ≢ rank_at keys k

@@ -1,7 +1,8 @@
-ghost use Rattle.std.specs.Prelude.{◌≡◌, ◌≢◌, ℕ, ◌<◌, ◌≤◌, ◌^◌, IfOk, length};
+ghost use Rattle.std.specs.Prelude.{◌≡◌, ◌≢◌, ℕ, ◌+◌, ◌*◌, ◌<◌, ◌≤◌, ◌^◌, IfOk, length};
 ghost use Rattle.zone_region.specs.Entries.{words_in};
 ghost use Rattle.offset_tree.specs.Keys.{IsForm, rank_of};
-ghost use Rattle.offset_tests.specs.Grid.{place_of, key_at, rank_at, HasTree};
+ghost use Rattle.offset_tree.specs.Bounds.{search_cost};
+ghost use Rattle.offset_tests.specs.Grid.{place_of, key_at, rank_at, HasTree, LacksKey};
 
 use crate::keys::Keys;
 use offset_tree::find::find;
@@ -25,7 +26,7 @@ pub fn place(k: u64) -> Block
     Block { at: 8192 + 128 * k }
 }
 
-/// Writes the key of block `k`, its length and its CRC-32.
+/// Writes the key of block `k`, its length and its CRC-32. A connection node holds three connections.
 fn write_key(blocks: &mut MemBlocks, t: &Tree, keys: &Keys, k: u64, key: &Key)
     requires form { IsForm t.now.form }
     requires range { k < length keys.now.numbers.items }
@@ -44,7 +45,7 @@ fn write_key(blocks: &mut MemBlocks, t: &Tree, keys: &Keys, k: u64, key: &Key)
         blocks.set(b, 4, keys.len * 65536);
         blocks.set(b, 10, number);
     } else {
-        blocks.set(b, 4, keys.len * 256 + (number << 32));
+        blocks.set(b, 4, keys.len * 256 + 3 * 65536 + (number << 32));
         blocks.set(b, 5, number >> 32);
     }
 }
@@ -68,6 +69,26 @@ pub fn laid_out(alloc: Global, t: &Tree, keys: &Keys) -> Result<MemBlocks, NoMem
     Ok(blocks)
 }
 
+/// Puts block `k` into the tree, where no block has its key.
+pub fn put_in<B: Blocks, L: Ledger>(
+    blocks: &mut B,
+    t: &Tree,
+    keys: &Keys,
+    k: u64,
+    key: &Key,
+    steps: &mut Steps<L>,
+)
+    requires form { IsForm t.now.form }
+    requires absent { LacksKey (B.words blocks.old) t.now keys.now k }
+    requires range { k < length keys.now.numbers.items }
+    requires short { keys.now.len ≤ 8 }
+    requires key { key.now ≡ key_at keys.now k }
+    ensures there { HasTree (B.words blocks.new) t.now keys.now }
+    ensures cost { steps.new ≤ steps.old + (3 * search_cost (length keys.now.numbers.items) keys.now.len + 24) }
+{
+    insert(blocks, t, place(k), key, steps);
+}
+
 /// Puts block `k` into the tree, or takes it out where it is there. Says whether it is there now.
 pub fn toggle<B: Blocks, L: Ledger>(
     blocks: &mut B,
@@ -80,6 +101,7 @@ pub fn toggle<B: Blocks, L: Ledger>(
     requires form { IsForm t.now.form }
     requires there { HasTree (B.words blocks.old) t.now keys.now }
     requires range { k < length keys.now.numbers.items }
+    requires short { keys.now.len ≤ 8 }
     requires key { key.now ≡ key_at keys.now k }
     ensures { HasTree (B.words blocks.new) t.now keys.now }
 {
@@ -89,7 +111,7 @@ pub fn toggle<B: Blocks, L: Ledger>(
             false
         }
         None => {
-            insert(blocks, t, place(k), key, steps);
+            put_in(blocks, t, keys, k, key, steps);
             true
         }
     }

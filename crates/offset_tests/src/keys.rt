@@ -11,7 +11,9 @@ const POLYNOMIAL: u64 = 0x1_DB71_0641;
 /// Keys of one length: the lowest `len` bytes of each number, the lowest first.
 #[derive(Drop)]
 pub struct Keys {
+    /// The length of each key in bytes.
     pub len: u64,
+    /// The number of each key.
     pub numbers: Vec<u64>,
 }
 

@@ -1,4 +1,4 @@
-ghost use Rattle.std.specs.Prelude.{ℕ, List, ◌∷◌};
+ghost use Rattle.std.specs.Prelude.{◌≡◌, ℕ, List, [], ◌∷◌, true, IfOk};
 ghost use Rattle.zone_region.specs.Members.{In};
 ghost use Rattle.offset_queue.specs.Queue.{HoldsQueue};
 ghost use Rattle.offset_tests.specs.Line.{full, IsLine, HasLine};
@@ -45,12 +45,19 @@ fn push<B: Blocks>(blocks: &mut B, q: &Queue, b: Block)
     push_front(blocks, q, b, 5);
 }
 
-/// Makes a queue of the blocks at 8192, 8320 and 8448, which are put in in this order.
-pub fn fill<B: Blocks>(blocks: &mut B, q: &Queue)
+/// Makes an empty queue.
+pub fn begin<B: Blocks>(blocks: &mut B, q: &Queue)
     requires { HoldsQueue (B.words blocks.old) q.now 5 full }
-    ensures { IsLine (B.words blocks.new) q.now full }
+    ensures { IsLine (B.words blocks.new) q.now [] }
 {
     init(blocks, q);
+}
+
+/// Puts the blocks at 8192, 8320 and 8448 into an empty queue, in this order.
+pub fn fill<B: Blocks>(blocks: &mut B, q: &Queue)
+    requires { IsLine (B.words blocks.old) q.now [] }
+    ensures { IsLine (B.words blocks.new) q.now full }
+{
     push(blocks, q, Block { at: 8192 });
     push(blocks, q, Block { at: 8320 });
     push(blocks, q, Block { at: 8448 });
@@ -78,15 +85,16 @@ fn take_last<B: Blocks>(blocks: &mut B, q: &Queue) -> Option<Block>
     Some(b)
 }
 
-/// Takes at most three blocks out of the queue, each from the back, and lists them in this order.
-pub fn drain<B: Blocks>(blocks: &mut B, q: &Queue, order: &mut Vec<u64>) -> Result<(), NoMemory>
+/// Takes at most three blocks out of the queue, each from the back, and lists them in this order. Says whether the
+/// queue is empty then.
+pub fn drain<B: Blocks>(blocks: &mut B, q: &Queue, order: &mut Vec<u64>) -> Result<bool, NoMemory>
     requires { HasLine (B.words blocks.old) q.now }
-    ensures { HasLine (B.words blocks.new) q.now }
+    ensures { IfOk result (λ empty. empty ≡ true → IsLine (B.words blocks.new) q.now []) }
 {
     for _ in 0..3 {
         if let Some(b) = take_last(blocks, q) {
             order.push(b.at)?;
         }
     }
-    Ok(())
+    Ok(last(blocks, q, 5).is_none())
 }

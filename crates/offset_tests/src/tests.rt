@@ -1,23 +1,25 @@
 ghost use Rattle.std.specs.Prelude.{◌≡◌, ◌+◌, ◌<◌, ◌≤◌, length};
 ghost use Rattle.zone_region.specs.Entries.{words_in};
+ghost use Rattle.offset_tree.specs.Bounds.{search_cost};
 ghost use Rattle.offset_tree.specs.Keys.{IsForm};
-ghost use Rattle.offset_tests.specs.Grid.{HasTree, small_tree};
+ghost use Rattle.offset_tests.specs.Grid.{key_at, HasTree};
 
-use crate::grid::{laid_out, place, toggle};
+use crate::grid::{laid_out, place, put_in, toggle};
 use crate::keys::{Keys, colliding, counted, multiple};
-use crate::line::{Change, Spot, apply, drain, fill};
+use crate::line::{Change, Spot, apply, begin, drain, fill};
 use crate::walk::{Part, peek, walk};
 use offset_queue::queue::Queue;
 use offset_tree::find::find;
+use offset_tree::init::init;
 use offset_tree::tree::{Form, Tree};
 use std::alloc::Global;
 use std::marker::Brand;
 use std::process::Abort;
 use std::sync::ledger::{Blank, Ledger};
 use std::test::Fail;
-use zone_key::crc32;
+use zone_key::{Key, crc32};
 use zone_outside::NoMemory;
-use zone_region::blocks::Block;
+use zone_region::blocks::{Block, Blocks};
 use zone_region::counted::CountedBlocks;
 use zone_region::memory::MemBlocks;
 use zone_region::steps::Steps;
@@ -26,7 +28,6 @@ use zone_region::steps::Steps;
 fn request_tree() -> Tree
     ensures form { IsForm result.form }
     ensures context { result.context.at ≡ 4096 }
-    ensures value { result ≡ small_tree }
 {
     Tree {
         context: Block { at: 4096 },
@@ -53,35 +54,65 @@ fn connection_tree() -> Tree
     }
 }
 
-/// Looks for key `k` among a thousand, and counts the reads from outside. The steps rise by at most 105.
+/// Looks for key `k`. The steps rise by at most `most`, and so does a count of the reads from outside.
 fn seek<L: Ledger, R: Abort>(
     rt: &R,
-    alloc: Global,
     blocks: &CountedBlocks,
     t: &Tree,
     keys: &Keys,
     k: u64,
+    key: &Key,
     inside: bool,
+    most: u64,
     steps: &mut Steps<L>,
-) -> Result<(), Fail>
+)
     requires form { IsForm t.now.form }
     requires there { HasTree (words_in blocks.now.blocks.entries.items) t.now keys.now }
-    requires count { length keys.now.numbers.items ≡ 1000 }
-    requires len { keys.now.len ≡ 4 }
-    requires range { k < 1000 }
-    ensures cost { steps.new ≤ steps.old + 105 }
+    requires range { k < length keys.now.numbers.items }
+    requires few { length keys.now.numbers.items ≤ 65536 }
+    requires short { keys.now.len ≤ 8 }
+    requires key { key.now ≡ key_at keys.now k }
+    requires most { search_cost (length keys.now.numbers.items) keys.now.len ≤ most }
+    ensures cost { steps.new ≤ steps.old + most }
 {
-    let key = keys.key(alloc, k)?;
     let before = blocks.reads();
-    let found = find(blocks, t, crc32(key.bytes()), &key, steps);
+    let found = find(blocks, t, crc32(key.bytes()), key, steps);
     let reads = blocks.reads().wrapping_sub(before);
     let want = if inside { Some(place(k)) } else { None };
     assert_eq!(rt; found, want, "at {k}");
-    assert!(rt; reads <= 105, "at {k}");
-    Ok(())
+    assert!(rt; reads <= most, "at {k}");
 }
 
-/// A thousand keys are put in and found; the even ones are taken out and are gone.
+/// Puts block `k` in. A count of the reads of `insert` from outside rises by at most `most`.
+fn add<L: Ledger, R: Abort>(
+    rt: &R,
+    blocks: &mut CountedBlocks,
+    t: &Tree,
+    keys: &Keys,
+    k: u64,
+    key: &Key,
+    most: u64,
+    steps: &mut Steps<L>,
+)
+    requires form { IsForm t.now.form }
+    requires there { HasTree (words_in blocks.old.blocks.entries.items) t.now keys.now }
+    requires range { k < length keys.now.numbers.items }
+    requires short { keys.now.len ≤ 8 }
+    requires key { key.now ≡ key_at keys.now k }
+    ensures { HasTree (words_in blocks.new.blocks.entries.items) t.now keys.now }
+{
+    match find(blocks, t, crc32(key.bytes()), key, steps) {
+        Some(_) => panic!(rt; "{k} is there"),
+        None => {
+            let before = blocks.reads();
+            put_in(blocks, t, keys, k, key, steps);
+            assert!(rt; blocks.reads().wrapping_sub(before) <= most, "at {k}");
+        }
+    }
+}
+
+/// A thousand keys are put in and found; the even ones are taken out and are gone. The bound on a search is 105
+/// words, and 3 * 105 + 24 on an insertion.
 fn thousand<L: Ledger, R: Abort>(rt: &R, alloc: Global, t: &Tree, blank: Blank) -> Result<(), Fail>
     requires name { blank.name ≡ L.name }
     requires parts { blank.parts ≡ L.parts }
@@ -94,26 +125,29 @@ fn thousand<L: Ledger, R: Abort>(rt: &R, alloc: Global, t: &Tree, blank: Blank) 
     let mut blocks = CountedBlocks::new(laid_out(alloc, t, &keys)?);
     for added in 0..1000u64 {
         let key = keys.key(alloc, added)?;
-        assert!(rt; toggle(&mut blocks, t, &keys, added, &key, &mut steps));
+        add(rt, &mut blocks, t, &keys, added, &key, 339, &mut steps);
     }
     for k in 0..1000u64 {
-        seek(rt, alloc, &blocks, t, &keys, k, true, &mut steps)?;
+        let key = keys.key(alloc, k)?;
+        seek(rt, &blocks, t, &keys, k, &key, true, 105, &mut steps);
     }
     for half in 0..500u64 {
         let key = keys.key(alloc, 2 * half)?;
         assert!(rt; !toggle(&mut blocks, t, &keys, 2 * half, &key, &mut steps));
     }
     for left in 0..1000u64 {
+        let key = keys.key(alloc, left)?;
         seek(
             rt,
-            alloc,
             &blocks,
             t,
             &keys,
             left,
+            &key,
             left % 2 == 1,
+            105,
             &mut steps,
-        )?;
+        );
     }
     Ok(())
 }
@@ -160,7 +194,8 @@ fn compare<R: Abort>(
     Ok(())
 }
 
-/// Two thousand random changes of a tree of at most 64 blocks, of which sixteen have one hash.
+/// Two thousand random changes of a tree of at most 64 blocks in four sets of sixteen, each with one hash. The bound
+/// on a search is 75 words.
 fn random_run<L: Ledger, R: Abort>(
     rt: &R,
     alloc: Global,
@@ -176,7 +211,7 @@ fn random_run<L: Ledger, R: Abort>(
     let mut steps = Steps::<L>::new(blank);
     let keys = colliding(alloc)?;
     let order = sorted(alloc, &keys)?;
-    let mut blocks = laid_out(alloc, t, &keys)?;
+    let mut blocks = CountedBlocks::new(laid_out(alloc, t, &keys)?);
     let mut inside = vec![in alloc; false; 64]?;
     let mut seed = 1u64;
     for step in 0..2000u64 {
@@ -190,7 +225,14 @@ fn random_run<L: Ledger, R: Abort>(
             assert!(rt; *was != now);
             *was = now;
         }
-        compare(rt, alloc, &blocks, order.as_slice(), inside.as_slice())?;
+        seek(rt, &blocks, t, &keys, k, &key, now, 75, &mut steps);
+        compare(
+            rt,
+            alloc,
+            &blocks.blocks,
+            order.as_slice(),
+            inside.as_slice(),
+        )?;
     }
     Ok(())
 }
@@ -215,14 +257,22 @@ fn keys_collide(rt: HostRuntime) -> Result<(), Fail> {
 /// A block, a word of it and its value.
 type Wanted = (u64, usize, u64);
 
-/// No blocks: the root is the sentinel, at 4096 + 24, and the sentinel's words are 0.
-const EMPTY: [Wanted; 5] = [
+/// An empty tree: the root is the sentinel, at 4096 + 24, and the sentinel's words are 0.
+const EMPTY: [Wanted; 10] = [
     (4096, 0, 4120),
     (4096, 1, 4120),
+    (4096, 2, 7),
     (4096, 3, 0),
+    (4096, 4, 0),
     (4096, 5, 0),
+    (4096, 6, 0),
     (4096, 7, 0),
+    (4096, 8, 7),
+    (4096, 15, 7),
 ];
+
+/// The root is the sentinel.
+const NONE: [Wanted; 2] = [(4096, 0, 4120), (4096, 1, 4120)];
 
 /// Block 0 alone: black, under parent 0, with the sentinel on both sides.
 const ROOT: [Wanted; 5] = [
@@ -280,103 +330,114 @@ const ROOT_ALONE: [Wanted; 5] = [
     (8448, 4, 262144),
 ];
 
+/// Connection node 1 alone: four bytes of key, three connections, and the key's bytes 0, 0, 0, 1 in the upper half.
+const CONNECTIONS: [Wanted; 4] = [
+    (4096, 0, 8320),
+    (8320, 0, 1447292810),
+    (8320, 4, 0x0100_0000_0003_0400),
+    (8320, 5, 0),
+];
+
+/// Connection node 2, red, on the right of node 1.
+const RED_CONNECTIONS: [Wanted; 2] = [
+    (8320, 4, 0x0100_0000_0003_0400),
+    (8448, 4, 0x0200_0000_0003_0401),
+];
+
+/// Connection node 2 alone, black; node 1 keeps its hash and its key.
+const CONNECTIONS_LEFT: [Wanted; 4] = [
+    (4096, 0, 8448),
+    (8448, 4, 0x0200_0000_0003_0400),
+    (8320, 0, 1447292810),
+    (8320, 4, 0x0100_0000_0003_0400),
+];
+
 fn compare_words<R: Abort>(rt: &R, blocks: &MemBlocks, wanted: &[Wanted]) {
     for (at, i, value) in wanted {
         assert_eq!(rt; peek(blocks, *at, *i), *value, "word {i} at {at}");
     }
 }
 
-/// Puts block `k` in or takes it out, and looks at words.
-fn change<L: Ledger, R: Abort>(
+/// Blocks put in or taken out one after the other, and words worked out by hand after each.
+fn small_tree<L: Ledger, R: Abort>(
     rt: &R,
     alloc: Global,
-    blocks: &mut MemBlocks,
-    keys: &Keys,
-    k: u64,
-    wanted: &[Wanted],
-    steps: &mut Steps<L>,
+    t: &Tree,
+    rows: &[(u64, &[Wanted])],
+    blank: Blank,
 ) -> Result<(), Fail>
-    requires there { HasTree (words_in blocks.old.entries.items) small_tree keys.now }
-    requires range { k < length keys.now.numbers.items }
-    requires short { keys.now.len ≤ 8 }
-    ensures { HasTree (words_in blocks.new.entries.items) small_tree keys.now }
-{
-    let key = keys.key(alloc, k)?;
-    toggle(blocks, &request_tree(), keys, k, &key, steps);
-    compare_words(rt, blocks, wanted);
-    Ok(())
-}
-
-/// Three blocks put in by rising hashes, the middle one taken out, and then the others: words worked out by hand.
-fn three_blocks<L: Ledger, R: Abort>(rt: &R, alloc: Global, blank: Blank) -> Result<(), Fail>
     requires name { blank.name ≡ L.name }
     requires parts { blank.parts ≡ L.parts }
     requires some { 0 < L.parts }
+    requires form { IsForm t.now.form }
+    requires context { t.now.context.at ≡ 4096 }
 {
     let mut steps = Steps::<L>::new(blank);
     let keys = counted(alloc, 3)?;
-    let mut blocks = laid_out(alloc, &request_tree(), &keys)?;
-    compare_words(rt, &blocks, EMPTY.as_slice());
-    change(
-        rt,
-        alloc,
-        &mut blocks,
-        &keys,
-        0,
-        ROOT.as_slice(),
-        &mut steps,
-    )?;
-    change(
-        rt,
-        alloc,
-        &mut blocks,
-        &keys,
-        1,
-        RED_CHILD.as_slice(),
-        &mut steps,
-    )?;
-    change(
-        rt,
-        alloc,
-        &mut blocks,
-        &keys,
-        2,
-        TURNED.as_slice(),
-        &mut steps,
-    )?;
-    change(
-        rt,
-        alloc,
-        &mut blocks,
-        &keys,
-        1,
-        REPLACED.as_slice(),
-        &mut steps,
-    )?;
-    change(
-        rt,
-        alloc,
-        &mut blocks,
-        &keys,
-        0,
-        ROOT_ALONE.as_slice(),
-        &mut steps,
-    )?;
-    change(
-        rt,
-        alloc,
-        &mut blocks,
-        &keys,
-        2,
-        EMPTY.as_slice(),
-        &mut steps,
-    )
+    let mut blocks = laid_out(alloc, t, &keys)?;
+    for (k, wanted) in rows {
+        assert!(rt; *k < 3);
+        let key = keys.key(alloc, *k)?;
+        toggle(&mut blocks, t, &keys, *k, &key, &mut steps);
+        compare_words(rt, &blocks, wanted);
+    }
+    Ok(())
+}
+
+/// Request nodes put in by rising hashes, the middle one taken out, and then the others.
+#[test]
+fn small_request_tree(rt: HostRuntime) -> Result<(), Fail> {
+    let rows = [
+        (0, ROOT.as_slice()),
+        (1, &RED_CHILD),
+        (2, &TURNED),
+        (1, &REPLACED),
+        (0, &ROOT_ALONE),
+        (2, &NONE),
+    ];
+    small_tree::<Brand, HostRuntime>(&rt, rt.alloc(), &request_tree(), &rows, Blank::new(1))
 }
 
 #[test]
-fn small_trees(rt: HostRuntime) -> Result<(), Fail> {
-    three_blocks::<Brand, HostRuntime>(&rt, rt.alloc(), Blank::new(1))
+fn small_connection_tree(rt: HostRuntime) -> Result<(), Fail> {
+    let rows = [
+        (1, CONNECTIONS.as_slice()),
+        (2, &RED_CONNECTIONS),
+        (1, &CONNECTIONS_LEFT),
+        (2, &NONE),
+    ];
+    small_tree::<Brand, HostRuntime>(&rt, rt.alloc(), &connection_tree(), &rows, Blank::new(1))
 }
+
+/// `init` sets words 0, 1 and 3 to 7 of the context, whatever they were, and no others.
+#[test]
+fn empty_tree(rt: HostRuntime) -> Result<(), Fail> {
+    let t = request_tree();
+    let mut blocks = MemBlocks::new(rt.alloc());
+    blocks.add(rt.alloc(), t.context, 16)?;
+    for i in 0..16u64 {
+        blocks.set(t.context, i, 7);
+    }
+    init(&mut blocks, &t);
+    compare_words(&rt, &blocks, &EMPTY);
+    Ok(())
+}
+
+/// The three blocks in a queue whose head is at word 8 of the context: links to the other's two link words, the
+/// previous one first.
+const FULL: [Wanted; 8] = [
+    (4096, 8, 8232),
+    (4096, 9, 8488),
+    (8448, 5, 4160),
+    (8448, 6, 8360),
+    (8320, 5, 8488),
+    (8320, 6, 8232),
+    (8192, 5, 8360),
+    (8192, 6, 4160),
+];
+
+/// The head of an empty queue.
+const EMPTIED: [Wanted; 2] = [(4096, 8, 4160), (4096, 9, 4160)];
 
 /// A queue is filled, changed, and emptied from the back, and this again for each change.
 #[test]
@@ -397,13 +458,17 @@ fn queue_of_three(rt: HostRuntime) -> Result<(), Fail> {
         (Change::Out(Spot::Middle), &[8192, 8448]),
         (Change::Out(Spot::Front), &[8192, 8320]),
     ];
+    begin(&mut blocks, &q);
     for (change, want) in rows {
+        compare_words(&rt, &blocks, &EMPTIED);
         fill(&mut blocks, &q);
+        compare_words(&rt, &blocks, &FULL);
         apply(&mut blocks, &q, change);
         let mut order = Vec::new(alloc);
-        drain(&mut blocks, &q, &mut order)?;
+        assert!(rt; drain(&mut blocks, &q, &mut order)?, "{change:?}");
         assert_eq!(rt; order.as_slice(), want, "{change:?}");
     }
+    compare_words(&rt, &blocks, &EMPTIED);
     Ok(())
 }
 

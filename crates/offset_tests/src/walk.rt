@@ -14,8 +14,11 @@ pub fn peek(blocks: &MemBlocks, at: u64, i: usize) -> u64 {
 /// A part of a tree: what is linked at `at`, under `parent`, at most so many blocks deep.
 #[derive(Clone, Copy, Debug)]
 pub struct Part {
+    /// The byte offset of its top block, or the sentinel's.
     pub at: u64,
+    /// The byte offset of the block above it, 0 for the root.
     pub parent: u64,
+    /// Whether the block above it is red, or its top may not be red.
     pub under_red: bool,
 }
 

@@ -15,7 +15,8 @@ use zone_region::steps::Steps;
 
 /// The block of this hash and key; none exactly where no block of the tree has both.
 ///
-/// Hashes are compared first, as nginx's look-ups by name do, then the keys' bytes, and last their lengths.
+/// Hashes are compared first, as nginx's look-ups by name do, then the keys' bytes, and last their lengths. Among
+/// `n` blocks it reads at most `(2 * bits(n + 1) + 1) * (5 + len / 8)` words for a key of `len` bytes.
 pub fn find<B: Blocks, L: Ledger>(
     blocks: &B,
     t: &Tree,

@@ -61,6 +61,8 @@ fn gap_for<B: Blocks, L: Ledger>(
 }
 
 /// Puts a block into the tree (`ngx_rbtree_insert`). Its words hold the key's hash, length and bytes already.
+///
+/// It reads at most three times as many words as a search for the key may read, and 24 more, with those of the repair.
 pub fn insert<B: Blocks, L: Ledger>(
     blocks: &mut B,
     t: &Tree,

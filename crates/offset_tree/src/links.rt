@@ -9,8 +9,10 @@ use std::sync::ledger::Ledger;
 use zone_region::blocks::{Block, Blocks};
 use zone_region::steps::Steps;
 
+/// The word of a node that links its parent.
 pub const PARENT: u64 = 3;
 
+/// The word of a node whose lowest byte is its colour.
 pub const COLOUR: u64 = 4;
 
 /// The word of a node that links its child on one side.

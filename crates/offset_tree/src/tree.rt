@@ -19,6 +19,8 @@ pub struct Form {
 /// 1 for red.
 #[derive(Clone, Copy, Debug, PartialEq, Eq)]
 pub struct Tree {
+    /// The block that holds the root word and the sentinel.
     pub context: Block,
+    /// The places of length and key in its nodes.
     pub form: Form,
 }

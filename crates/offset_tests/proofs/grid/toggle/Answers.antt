@@ -1,21 +1,15 @@
 use Rattle.std.proofs.Common.{ap, ◌∙◌}
 use Rattle.zone_key.specs.Crc.{crc32_of}
-use Rattle.offset_tests.proofs.GridLemmas.{can_insert_at, tree_with_at, tree_without}
+use Rattle.offset_tests.proofs.GridLemmas.{lacks_key, tree_without}
 use Rattle.offset_tests.proofs.grid.toggle.Goals as goal
 
 pub remove-requires-clause-there : goal.remove-requires-clause-there
 remove-requires-clause-there g c = (c.requires.there.blocks, c.requires.there.tree, (c.in-Some.ensures.found _ c.requires.there.tree).0)
 
-pub insert-requires-clause-there : goal.insert-requires-clause-there
-insert-requires-clause-there g c =
-    (c.requires.there.blocks, can_insert_at _ _ _ c.args.k _ _ _ c.requires.form c.requires.there c.requires.range c.place.ensures c.requires.key (c.crc32.ensures ∙ ap (λ bs. crc32_of bs) c.bytes.ensures) (c.in-None.ensures.found _ c.requires.there.tree))
+pub put_in-requires-clause-absent : goal.put_in-requires-clause-absent
+put_in-requires-clause-absent g c = lacks_key _ _ _ c.args.k _ _ c.requires.there c.requires.key (c.crc32.ensures ∙ ap (λ bs. crc32_of bs) c.bytes.ensures) (c.in-None.ensures.found _ c.requires.there.tree)
 
 pub returns-in-Some : goal.returns-in-Some
 returns-in-Some g c =
     let i = (c.in-Some.ensures.found _ c.requires.there.tree).0 in
     tree_without _ _ _ _ c.in-Some.b.at c.requires.form c.requires.there i c.remove.ensures.removed (c.remove.ensures.changes _ c.requires.there.tree i)
-
-pub returns-in-None : goal.returns-in-None
-returns-in-None g c =
-    let can = can_insert_at _ _ _ c.args.k _ _ _ c.requires.form c.requires.there c.requires.range c.place.ensures c.requires.key (c.crc32.ensures ∙ ap (λ bs. crc32_of bs) c.bytes.ensures) (c.in-None.ensures.found _ c.requires.there.tree) in
-    tree_with_at _ _ _ _ c.args.k _ c.requires.form c.requires.there c.requires.range c.place.ensures (c.insert.ensures.inserted _ can)

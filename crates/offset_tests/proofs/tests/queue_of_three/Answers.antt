@@ -2,5 +2,5 @@ use Rattle.std.proofs.Common.{refl, arith}
 use Rattle.offset_tests.proofs.GridLemmas.{grid_queue}
 use Rattle.offset_tests.proofs.tests.queue_of_three.Goals as goal
 
-pub loop-change-init : goal.loop-change-init
-loop-change-init g c = grid_queue _ _ _ _ _ c.in_ok-blocks.ensures.grid (omega (arith, c.in_ok-counted.ensures)) c.request_tree-t.ensures.context refl
+pub begin-requires : goal.begin-requires
+begin-requires g c = grid_queue _ _ _ _ _ c.in_ok-blocks.ensures.grid (omega (arith, c.in_ok-counted.ensures)) c.request_tree-t.ensures.context refl
