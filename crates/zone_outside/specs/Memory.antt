@@ -12,25 +12,31 @@ pub record Text : Type 0 where
   pub most : ℕ
   pub failing : List ℕ
 
--- a source in memory: its name, the bytes still to come, the numbers of the reads that fail, and its counts of reads and faults
+-- a source in memory: its name, the bytes still to come, how many of them a read gives at most, the numbers of the reads that fail, and its counts of reads and faults
 pub record Source : Type 0 where
   pub name : List ℕ
   pub left : List ℕ
+  pub most : ℕ
   pub failing : List ℕ
   pub reads : ℕ
   pub faults : ℕ
 
--- a sink in memory: the bytes taken, the numbers of the writes that fail, and its counts of writes and faults
+-- a text under a name, of which nothing has been read
+abbrev pub source_of : List ℕ → Text → Source
+source_of name text = record { name = name; left = text.bytes; most = text.most; failing = text.failing; reads = 0; faults = 0 }
+
+-- a sink in memory: the bytes taken, how many a write takes at most, the numbers of the writes that fail, and its counts of writes and faults
 pub record Sink : Type 0 where
   pub taken : List ℕ
+  pub most : ℕ
   pub failing : List ℕ
   pub writes : ℕ
   pub faults : ℕ
 
--- a name, and the bytes that it names
+-- a name, and the text that it names
 pub record File : Type 0 where
   pub name : List ℕ
-  pub bytes : List ℕ
+  pub text : Text
 
 -- a shelf in memory: its files, the numbers of the opens that fail, and its counts of opens and faults
 pub record Shelf : Type 0 where

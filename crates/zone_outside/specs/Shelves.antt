@@ -2,13 +2,21 @@
 use Rattle.std.specs.Prelude.{ℕ, nat_eq, List, Option, find, map}
 use Rattle.std.specs.Option.{option_map}
 use Rattle.std.specs.Cmp.Lexicographic.{pointwise}
-use Rattle.zone_outside.specs.Memory.{File}
+use Rattle.zone_outside.specs.Memory.{File, Source, Text, source_of}
 use Rattle.zone_outside.specs.declared.memory.MemFile.{MemFile}
+
+-- the text of the first file of this name
+abbrev pub file_text : List ℕ → List File → Option Text
+file_text name files = option_map (λ file. file.text) (find (λ file. pointwise nat_eq file.name name) files)
 
 -- the bytes of the first file of this name
 abbrev pub text_named : List ℕ → List File → Option (List ℕ)
-text_named name files = option_map (λ file. file.bytes) (find (λ file. pointwise nat_eq file.name name) files)
+text_named name files = option_map (λ text. text.bytes) (file_text name files)
 
--- the name and the bytes of each file
+-- the first file of this name, opened
+abbrev pub opened : List ℕ → List File → Option Source
+opened name files = option_map (λ text. source_of name text) (file_text name files)
+
+-- the name and the text of each file
 abbrev pub files_of : List MemFile → List File
-files_of files = map (λ file. record { name = file.name.now; bytes = file.text.bytes }) files
+files_of files = map (λ file. record { name = file.name.now; text = file.text }) files

@@ -49,6 +49,7 @@ pub trait Sink {
 
 /// Named texts that can be opened.
 pub trait Shelf {
+    /// An opened text. Whoever opened it settles it.
     type Item: Source;
 
     // The text of a name, where the shelf tells it. No call changes it.

@@ -4,8 +4,8 @@ ghost use Rattle.std.specs.Option.{option_copied, option_map};
 ghost use Rattle.std.specs.Io.{ReadsAtMost, WritesAtMost};
 ghost use Rattle.std.specs.Io.KnownBytes.{ReadConsumes, WriteAppends};
 ghost use Rattle.zone_outside.specs.Faults.{HasCause, Rose};
-ghost use Rattle.zone_outside.specs.Memory.{repeated};
-ghost use Rattle.zone_outside.specs.Shelves.{files_of, text_named};
+ghost use Rattle.zone_outside.specs.Memory.{repeated, source_of};
+ghost use Rattle.zone_outside.specs.Shelves.{file_text, files_of, opened, text_named};
 
 use crate::devices::{Shelf, Sink, Source};
 use crate::errors::{Failed, count_fault};
@@ -42,6 +42,7 @@ impl<'a> MemText<'a> {
     /// These bytes, which no read fails to give.
     pub fn of(bytes: &'a [u8]) -> MemText<'a>
         ensures bytes { result.bytes ≡ bytes.now }
+        ensures most { result.most ≡ 2 ^ 64 - 1 }
         ensures failing { result.failing ≡ [] }
     {
         MemText {
@@ -56,6 +57,7 @@ impl<'a> MemText<'a> {
     /// These bytes, and then so many copies of a piece.
     pub fn repeating(front: &'a [u8], piece: &'a [u8], copies: u64) -> MemText<'a>
         ensures bytes { result.bytes ≡ front.now ++ repeated copies piece.now }
+        ensures most { result.most ≡ 2 ^ 64 - 1 }
         ensures failing { result.failing ≡ [] }
     {
         MemText {
@@ -117,6 +119,7 @@ impl<'a> Model for MemSource<'a> {
     ghost view = { λ s. record {
       name = s.name;
       left = s.front.now ++ repeated s.copies s.piece.now;
+      most = s.most;
       failing = s.failing.now;
       reads = s.reads;
       faults = s.faults;
@@ -128,7 +131,7 @@ impl<'a> Model for MemSource<'a> {
 impl<'a> MemSource<'a> {
     /// A source of this name over this text.
     pub fn of(name: Text, text: &MemText<'a>) -> MemSource<'a>
-        ensures { result ≡ record { name = name; left = text.now.bytes; failing = text.now.failing; reads = 0; faults = 0 } }
+        ensures { result ≡ source_of name text.now }
     {
         MemSource {
             name,
@@ -157,8 +160,9 @@ impl<'a> Source for MemSource<'a> {
         ensures cause { HasCause self.old.faults self.new.faults result }
         ensures calm { OnOk result (self.new.faults ≡ self.old.faults) }
         ensures failing { IsErr result ↔ Contains self.old.failing self.new.reads }
+        ensures most { IfOk result (λ n. n ≤ self.old.most) }
         ensures reads { self.new.reads ≡ min (self.old.reads + 1) (2 ^ 64 - 1) }
-        ensures same { self.new.failing ≡ self.old.failing }
+        ensures same { self.new ≡ record self.old { left = self.new.left; reads = self.new.reads; faults = self.new.faults } }
     {
         self.reads = self.reads.saturating_add(1);
         if self.failing.contains(&self.reads) {
@@ -188,6 +192,7 @@ fn refill<'a>(front: &mut &'a [u8], piece: &'a [u8], copies: &mut u64)
 fn take_front(front: &mut &[u8], most: usize, into: &mut [u8]) -> usize
     requires { 0 < most }
     ensures bound { result ≤ length into.new }
+    ensures most { result ≤ most }
     ensures moved { front.old.now ≡ take result into.new ++ front.new.now }
     ensures none { result ≡ 0 → 0 < length into.new → front.new.now ≡ [] }
 {
@@ -217,6 +222,7 @@ impl<'a> Model for MemSink<'a> {
 
     ghost view = { λ s. record {
       taken = s.taken.items;
+      most = s.most;
       failing = s.failing.now;
       writes = s.writes;
       faults = s.faults;
@@ -229,7 +235,7 @@ impl<'a> MemSink<'a> {
     /// An empty sink, of which a write takes at most so many bytes.
     pub fn of(alloc: Global, most: usize, failing: &'a [u64]) -> MemSink<'a>
         requires { 0 < most }
-        ensures { result ≡ record { taken = []; failing = failing.now; writes = 0; faults = 0 } }
+        ensures { result ≡ record { taken = []; most = most; failing = failing.now; writes = 0; faults = 0 } }
     {
         MemSink {
             taken: Vec::new(alloc),
@@ -260,8 +266,9 @@ impl<'a> Sink for MemSink<'a> {
         ensures cause { HasCause self.old.faults self.new.faults result }
         ensures calm { OnOk result (self.new.faults ≡ self.old.faults) }
         ensures failing { Contains self.old.failing self.new.writes → IsErr result }
+        ensures most { IfOk result (λ n. n ≡ min (length piece.now) self.old.most) }
         ensures writes { self.new.writes ≡ min (self.old.writes + 1) (2 ^ 64 - 1) }
-        ensures same { self.new.failing ≡ self.old.failing }
+        ensures same { self.new ≡ record self.old { taken = self.new.taken; writes = self.new.writes; faults = self.new.faults } }
     {
         self.writes = self.writes.saturating_add(1);
         let count = piece.len().min(self.most);
@@ -329,17 +336,17 @@ impl<'a> Shelf for MemShelf<'a> {
     ghost faults = { λ s n. s.faults };
 
     fn open(&mut self, name: Text) -> Result<MemSource<'a>, Failed>
-        ensures same { self.new.files ≡ self.old.files }
+        ensures same { self.new ≡ record self.old { opens = self.new.opens; faults = self.new.faults } }
         ensures kept { (n : List ℕ) → text_named n self.new.files ≡ text_named n self.old.files }
         ensures later { List ℕ → self.old.faults ≤ self.new.faults }
         ensures named { IfOk result (λ item. item.name ≡ name) }
         ensures whole { IfOk result (λ item. Some item.left ≡ text_named name self.old.files) }
         ensures fresh { IfOk result (λ item. item.faults ≡ 0) }
+        ensures item { IfOk result (λ item. Some item ≡ opened name self.old.files) }
         ensures calm { OnOk result (List ℕ → self.new.faults ≡ self.old.faults) }
         ensures failed { OnErr result (Rose self.old.faults self.new.faults) }
         ensures failing { Contains self.old.failing self.new.opens → IsErr result }
         ensures opens { self.new.opens ≡ min (self.old.opens + 1) (2 ^ 64 - 1) }
-        ensures others { self.new.failing ≡ self.old.failing }
         ensures found { OnErr result (Contains self.old.failing self.new.opens ⊎ (text_named name self.old.files ≡ None)) }
     {
         self.opens = self.opens.saturating_add(1);
@@ -353,7 +360,13 @@ impl<'a> Shelf for MemShelf<'a> {
         }
     }
 
-    fn settle(&mut self, item: MemSource<'a>) {
+    fn settle(&mut self, item: MemSource<'a>)
+        ensures same { self.new ≡ record self.old { faults = self.new.faults } }
+        ensures kept { (n : List ℕ) → text_named n self.new.files ≡ text_named n self.old.files }
+        ensures later { List ℕ → self.old.faults ≤ self.new.faults }
+        ensures failed { item.entry.faults ≢ 0 → Rose self.old.faults self.new.faults }
+        ensures calm { item.entry.faults ≡ 0 → List ℕ → self.new.faults ≡ self.old.faults }
+    {
         if item.faults > 0 {
             count_fault(&mut self.faults);
         }
@@ -362,7 +375,7 @@ impl<'a> Shelf for MemShelf<'a> {
 
 // The first file of this name.
 fn file_named<'a>(files: &'a [MemFile<'a>], name: &[u8]) -> Option<&'a MemFile<'a>>
-    ensures { option_map (λ file. file.now.text.bytes) result ≡ text_named name.now (files_of files.now) }
+    ensures { option_map (λ file. file.now.text) result ≡ file_text name.now (files_of files.now) }
 {
     first_named(files, name)
 }

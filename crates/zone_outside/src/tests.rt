@@ -1,5 +1,7 @@
+use crate::coded::{DecodeFault, decode};
 use crate::devices::Shelf;
 use crate::memory::{MemFile, MemShelf, MemSink, MemSource, MemText};
+use crate::numbers::read_number;
 use crate::system::{FileShelf, StdSink};
 use crate::text::Text;
 use crate::transfer::{ReadAnswer, WriteFault, read_all, read_named, write_all};
@@ -23,18 +25,26 @@ fn reads_to_the_end(rt: HostRuntime) -> Result<(), Fail> {
     let plain = MemText::of(b"hello");
     let slow = MemText::of(b"hello").with_most(1);
     let copied = MemText::repeating(b"ab", b"xyz", 2).with_most(2);
-    let second = MemText::of(b"hello").with_most(2).with_failing(&[2]);
+    // Read by 2, "he", "ll" and "o" are three reads, and the fourth finds the end.
+    let third = MemText::of(b"hello").with_most(2).with_failing(&[3]);
+    let fourth = MemText::of(b"hello").with_most(2).with_failing(&[4]);
+    let fifth = MemText::of(b"hello").with_most(2).with_failing(&[5]);
+    // Read at once, the second read finds the end.
     let last = MemText::of(b"hello").with_failing(&[2]);
+    let beyond = MemText::of(b"hello").with_failing(&[3]);
     let nothing = MemText::of(b"");
-    let rows: [(&MemText<'_>, u64, Result<&[u8], ReadAnswer>); 9] = [
+    let rows: [(&MemText<'_>, u64, Result<&[u8], ReadAnswer>); 12] = [
         (&plain, 5, Ok(b"hello")),
         (&plain, 4, Err(ReadAnswer::TooLong)),
         (&plain, u64::MAX, Ok(b"hello")),
         (&slow, 5, Ok(b"hello")),
         (&slow, 4, Err(ReadAnswer::TooLong)),
         (&copied, 8, Ok(b"abxyzxyz")),
-        (&second, 5, Err(ReadAnswer::Fault)),
+        (&third, 5, Err(ReadAnswer::Fault)),
+        (&fourth, 5, Err(ReadAnswer::Fault)),
+        (&fifth, 5, Ok(b"hello")),
         (&last, 5, Err(ReadAnswer::Fault)),
+        (&beyond, 5, Ok(b"hello")),
         (&nothing, 0, Ok(b"")),
     ];
     for (text, limit, want) in rows {
@@ -156,4 +166,65 @@ fn texts_keep_their_bytes(rt: HostRuntime) -> Result<(), Fail> {
     let again = Text::from_vec(text.into_vec());
     assert_eq!(rt; again.bytes(), b"a\xff\0".as_slice());
     Ok(())
+}
+
+#[test]
+fn decodes_text(rt: HostRuntime) -> Result<(), Fail> {
+    let badly = Err(DecodeFault::Badly);
+    let rows: [(&[u8], Result<&[u8], DecodeFault>); 18] = [
+        (b"", Ok(b"")),
+        (b"a/b", Ok(b"a/b")),
+        (b"%41", Ok(b"A")),
+        (b"x%4a%4Ay", Ok(b"xJJy")),
+        (b"%00%fF%Ff", Ok(b"\x00\xff\xff")),
+        (b"%2541", Ok(b"%41")),
+        (b"%412", Ok(b"A2")),
+        (b"!~", Ok(b"!~")),
+        (b"%20", Ok(b" ")),
+        (b"%", badly),
+        (b"%4", badly),
+        (b"a%", badly),
+        (b"a%4", badly),
+        (b"%zz", badly),
+        (b"%4g", badly),
+        (b"%%41", badly),
+        (b"a b", badly),
+        (b"a\x7f", badly),
+    ];
+    for (text, want) in rows {
+        match decode(rt.alloc(), text) {
+            Ok(bytes) => assert_eq!(rt; Ok(bytes.as_slice()), want),
+            Err(fault) => assert_eq!(rt; Err(fault), want),
+        }
+    }
+    Ok(())
+}
+
+#[test]
+fn reads_numbers(rt: HostRuntime) {
+    let rows: [(&[u8], u64, Option<u64>); 16] = [
+        (b"0", 0, Some(0)),
+        (b"1", 0, None),
+        (b"9", 10, Some(9)),
+        (b"10", 10, Some(10)),
+        (b"11", 10, None),
+        (b"100", 10, None),
+        (
+            b"18446744073709551615",
+            u64::MAX,
+            Some(18_446_744_073_709_551_615),
+        ),
+        (b"18446744073709551616", u64::MAX, None),
+        (b"99999999999999999999", u64::MAX, None),
+        (b"", 10, None),
+        (b"00", 10, None),
+        (b"01", 10, None),
+        (b"+1", 10, None),
+        (b"-1", 10, None),
+        (b"1a", 10, None),
+        (b" 1", 10, None),
+    ];
+    for (word, most, want) in rows {
+        assert_eq!(rt; read_number(word, most), want);
+    }
 }

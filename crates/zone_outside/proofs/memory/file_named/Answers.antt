@@ -1,11 +1,11 @@
 -- The search compares the names.
 use Rattle.std.proofs.Common.{ap, ◌∙◌}
 use Rattle.std.specs.Option.{option_map}
-use Rattle.zone_outside.proofs.ShelfLemmas.{bytes-copied, text_named-files}
+use Rattle.zone_outside.proofs.ShelfLemmas.{text-copied, file_text-files}
 use Rattle.zone_outside.proofs.memory.file_named.Goals as goal
 
 pub returns : goal.returns
 returns c =
-    bytes-copied c.first_named.result
-    ∙ ap (λ found. option_map (λ file. file.text.bytes) found) c.first_named.ensures
-    ∙ text_named-files c.args.name.now c.args.files.now
+    text-copied c.first_named.result
+    ∙ ap (λ found. option_map (λ file. file.text) found) c.first_named.ensures
+    ∙ file_text-files c.args.name.now c.args.files.now
