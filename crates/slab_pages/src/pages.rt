@@ -67,9 +67,11 @@ impl Pages {
         self.geometry
     }
 
-    /// The number of free pages.
+    /// The number of free pages. The words always lay out one list of free runs, and only one, whose pages these are.
     pub fn free_count(&self) -> u64
-        ensures { (runs : List Run) → LaysRuns self.now runs → result ≡ page_total runs }
+        ensures laid { ((runs : List Run) × LaysRuns self.now runs) }
+        ensures only { (xs ys : List Run) → LaysRuns self.now xs → LaysRuns self.now ys → xs ≡ ys }
+        ensures count { (runs : List Run) → LaysRuns self.now runs → result ≡ page_total runs }
     {
         self.region.load(PFREE)
     }
@@ -93,7 +95,7 @@ impl Pages {
     pub fn set_word(&mut self, w: u64, v: u64)
         requires within { w < length self.old.words }
         requires not_listed { is_list_word w ≡ false }
-        requires not_free { ((runs : List Run) × LaysRuns self.old runs × (is_run_word runs w ≡ false)) }
+        requires not_free { (runs : List Run) → LaysRuns self.old runs → is_run_word runs w ≡ false }
         ensures set { self.new ≡ record { bytes = self.old.bytes; words = slice_set self.old.words w v } }
         ensures laid { (runs : List Run) → LaysRuns self.old runs → LaysRuns self.new runs }
     {
@@ -128,9 +130,10 @@ impl Pages {
     ///
     /// It walks the list of free runs for each page.
     pub fn can_put(&self, p: Page, n: u64) -> bool
+        ensures laid { ((runs : List Run) × LaysRuns self.now runs) }
         ensures yes { let run : Run = record { first = p.number; pages = n } in
             IsTrue result →
-            ((runs : List Run) × LaysRuns self.now runs × IsUsed (pages_of self.now.bytes) self.now.words runs run) }
+            (runs : List Run) → LaysRuns self.now runs → IsUsed (pages_of self.now.bytes) self.now.words runs run }
         ensures whenever { let run : Run = record { first = p.number; pages = n } in
             (runs : List Run) → LaysRuns self.now runs → IsUsed (pages_of self.now.bytes) self.now.words runs run →
             IsTrue result }
@@ -148,7 +151,7 @@ impl Pages {
     /// It reads the descriptors next to the run and doesn't walk the list, so its time doesn't grow with it.
     pub fn put(&mut self, p: Page, n: u64)
         requires { let run : Run = record { first = p.number; pages = n } in
-            ((runs : List Run) × LaysRuns self.old runs × IsUsed (pages_of self.old.bytes) self.old.words runs run) }
+            (runs : List Run) → LaysRuns self.old runs → IsUsed (pages_of self.old.bytes) self.old.words runs run }
         ensures laid { let run : Run = record { first = p.number; pages = n } in
             (runs : List Run) → LaysRuns self.old runs → LaysRuns self.new (give_run run runs) }
         ensures kept { let run : Run = record { first = p.number; pages = n } in

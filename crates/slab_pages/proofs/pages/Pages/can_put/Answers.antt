@@ -13,13 +13,13 @@ is_used-requires-clause-laid c =
     (c.self.invariant.0, subst (λ (count : ℕ). LaysList count c.self.inside.region c.self.invariant.0) (sym g.pages_are) (runs-list _ _ g.large g.small c.self.invariant.1))
 
 pub returns-clause-yes : goal.returns-clause-yes
-returns-clause-yes c = λ yes.
+returns-clause-yes c = λ yes runs there.
     let g = c.self.inside.geometry in
     let run : Run = record { first = c.args.p.number; pages = c.args.n } in
-    let runs = c.self.invariant.0 in
-    let list = subst (λ (count : ℕ). LaysList count c.self.inside.region runs) (sym g.pages_are) (runs-list _ _ g.large g.small c.self.invariant.1) in
+    let h = subst (λ (image : Image). LaysRuns image runs) (sym c.self.view_is) there in
+    let list = subst (λ (count : ℕ). LaysList count c.self.inside.region runs) (sym g.pages_are) (runs-list _ _ g.large g.small h) in
     let used = subst (λ (count : ℕ). IsUsed count c.self.inside.region runs run) g.pages_are ((c.is_used.ensures runs list).0 yes) in
-    (runs, subst (λ (image : Image). LaysRuns image runs) c.self.view_is c.self.invariant.1, subst (λ (image : Image). IsUsed (pages_of image.bytes) image.words runs run) c.self.view_is used)
+    subst (λ (image : Image). IsUsed (pages_of image.bytes) image.words runs run) c.self.view_is used
 
 pub returns-clause-whenever : goal.returns-clause-whenever
 returns-clause-whenever c = λ runs there used.
