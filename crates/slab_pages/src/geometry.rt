@@ -64,6 +64,7 @@ mod tests {
         assert!(rt; Geometry::of(32_767, 12) == Err(TooSmall));
         for (bytes, pages, start) in [
             (32_768, 7, 4096),
+            (33_664, 7, 4096),
             (1_048_576, 254, 8192),
             (10_485_760, 2544, 65_536),
         ] {
