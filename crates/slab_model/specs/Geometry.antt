@@ -13,11 +13,11 @@ prefix_size = 704
 abbrev pub descriptor_size : ℕ
 descriptor_size = 24
 
--- a zone of fewer bytes than this is refused: eight pages
+-- the least bytes of a zone, eight pages: where a zone's geometry is made, fewer are refused
 abbrev pub least_zone : ℕ
 least_zone = 8 * page_size
 
--- a zone of more bytes than this is refused
+-- the most bytes of a zone: a condition of the calls that open one, which their callers have to keep
 abbrev pub greatest_zone : ℕ
 greatest_zone = 67108864
 

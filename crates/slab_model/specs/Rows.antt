@@ -1,7 +1,7 @@
 -- Worked rows, which the definitions compute.
 use Rattle.std.specs.Prelude.{ℕ, ◌≡◌, List, [], ◌∷◌, Option, Some, None}
 use Rattle.slab_model.specs.declared.runs.Run.{Run}
-use Rattle.slab_model.specs.Geometry.{start_of, pages_of}
+use Rattle.slab_model.specs.Geometry.{most_pages, start_of, pages_of}
 use Rattle.slab_model.specs.Slab.{Slab, opened, grant, give_back, free_pages, stat_of}
 
 -- what these requests are given, one after another
@@ -19,9 +19,9 @@ abbrev pub after_returns : Slab → List ℕ → Slab
 after_returns slab [] = slab
 after_returns slab (at ∷ ats) = after_returns (give_back slab at) ats
 
--- zones of 32 KiB, 1 MiB and 10 MiB
+-- zones of 32 KiB, 1 MiB and 10 MiB; and one of 33,664 bytes, where 8 pages fit with their descriptors and 7 of them after the start
 abbrev pub ZonesRow : Type 0
-ZonesRow = (pages_of 32768 ≡ 7) × (start_of 32768 ≡ 4096) × (pages_of 1048576 ≡ 254) × (start_of 1048576 ≡ 8192) × (pages_of 10485760 ≡ 2544) × (start_of 10485760 ≡ 65536)
+ZonesRow = (pages_of 32768 ≡ 7) × (start_of 32768 ≡ 4096) × (pages_of 1048576 ≡ 254) × (start_of 1048576 ≡ 8192) × (pages_of 10485760 ≡ 2544) × (start_of 10485760 ≡ 65536) × (most_pages 33664 ≡ 8) × (start_of 33664 ≡ 4096) × (pages_of 33664 ≡ 7)
 
 -- a context of 80 bytes, a name of 26 and a node of 84 in 32 KiB
 abbrev pub NodesRow : Type 0
@@ -49,3 +49,13 @@ RunsRow = (grants_of (opened 32768) (4096 ∷ 4096 ∷ 4096 ∷ []) ≡ Some 409
     × ((after_returns three_pages (4096 ∷ 12288 ∷ 8192 ∷ [])).runs ≡ run_of 0 7 ∷ [])
     × (grants_of (after_returns three_pages (4096 ∷ 12288 ∷ [])) (4096 ∷ []) ≡ Some 12288 ∷ [])
     × ((after_grants (after_returns three_pages (4096 ∷ 12288 ∷ [])) (4096 ∷ [])).runs ≡ run_of 3 4 ∷ run_of 0 1 ∷ [])
+
+-- six pages, of which the third, the first and the fifth come back: three free runs of a page, and the rest of the zone
+abbrev pub six_pages : Slab
+six_pages = after_returns (after_grants (opened 32768) (4096 ∷ 4096 ∷ 4096 ∷ 4096 ∷ 4096 ∷ 4096 ∷ [])) (12288 ∷ 4096 ∷ 20480 ∷ [])
+
+-- the fourth page merges with the runs on both sides and goes to the head, and the other runs stay in their order behind it
+abbrev pub MergeRow : Type 0
+MergeRow = (six_pages.runs ≡ run_of 4 1 ∷ run_of 0 1 ∷ run_of 2 1 ∷ run_of 6 1 ∷ [])
+    × ((give_back six_pages 16384).runs ≡ run_of 2 3 ∷ run_of 0 1 ∷ run_of 6 1 ∷ [])
+    × (grants_of (give_back six_pages 16384) (8192 ∷ 4096 ∷ 4096 ∷ []) ≡ Some 12288 ∷ Some 20480 ∷ Some 4096 ∷ [])

@@ -86,7 +86,9 @@ fn fresh_parts(alloc: Global, bytes: u64) -> Result<Parts, NoMemory>
 }
 
 impl PlainSlab {
-    /// The pool of a zone of `bytes` bytes: all pages are one free run.
+    /// The pool of a zone of `bytes` bytes, 32,768 to 67,108,864: all pages are one free run.
+    ///
+    /// `NoMemory` comes where there is no memory for its lists, and for nothing else. No size is refused here.
     pub fn open(alloc: Global, bytes: u64) -> Result<PlainSlab, NoMemory>
         requires large { least_zone ≤ bytes }
         requires small { bytes ≤ greatest_zone }

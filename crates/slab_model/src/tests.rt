@@ -75,6 +75,19 @@ const FULL: [Row; 16] = [
     (Step::Give(4096), 1, (8, 0, 0, 7, 1)),
 ];
 
+/// What follows once 64 blocks of 64 bytes, whose bits are one word, have filled the first page and left the class
+/// without a listed page: a second page serves, until the first one has a block again and stands before it.
+const EXACT: [Row; 8] = [
+    (Step::Take(64, Some(8192)), 5, (3, 128, 65, 65, 0)),
+    (Step::Take(33, Some(8256)), 5, (3, 128, 66, 66, 0)),
+    (Step::Give(4736), 5, (3, 128, 65, 66, 0)),
+    (Step::Take(64, Some(4736)), 5, (3, 128, 66, 67, 0)),
+    (Step::Take(64, Some(8320)), 5, (3, 128, 67, 68, 0)),
+    (Step::Give(8256), 5, (3, 128, 66, 68, 0)),
+    (Step::Give(4096), 5, (3, 128, 65, 68, 0)),
+    (Step::Take(64, Some(4096)), 5, (3, 128, 66, 69, 0)),
+];
+
 fn take_one(
     rt: &impl Abort,
     slab: &mut PlainSlab,
@@ -135,6 +148,25 @@ fn worked_rows(rt: HostRuntime) -> Result<(), Fail> {
     check_rows(&rt, alloc, &SPLITS)?;
     check_rows(&rt, alloc, &SMALL)?;
     check_rows(&rt, alloc, &FULL)?;
+    Ok(())
+}
+
+/// The first block of 64 bytes begins the first page, and 64 of them fill it. No block of it holds bits.
+#[test]
+fn exact_page(rt: HostRuntime) -> Result<(), Fail> {
+    let alloc = rt.alloc();
+    let mut slab = PlainSlab::open(alloc, 32768)?;
+    for i in 0u64..64 {
+        let row = (
+            Step::Take(64, Some(4096 + 64 * i)),
+            6,
+            (3, 64, i + 1, i + 1, 0),
+        );
+        check_row(&rt, &mut slab, alloc, row)?;
+    }
+    for row in EXACT {
+        check_row(&rt, &mut slab, alloc, row)?;
+    }
     Ok(())
 }
 

@@ -1,5 +1,5 @@
 ghost use Rattle.slab_model.specs.Laws.{OpenedLaw, GrantSoundLaw, ReturnSoundLaw, GrantLaw, NoGrantLaw, ReturnLaw, BlocksLaw, PagesLaw, RoundTripLaw, FitsLaw, RequestsLaw, ReturnCountsLaw};
-ghost use Rattle.slab_model.specs.Rows.{ZonesRow, NodesRow, SmallRow, LargeRow, RunsRow};
+ghost use Rattle.slab_model.specs.Rows.{ZonesRow, NodesRow, SmallRow, LargeRow, RunsRow, MergeRow};
 
 /// What holds of every slab, as theorems over the definitions. Nothing runs.
 pub fn laws()
@@ -24,4 +24,5 @@ pub fn worked_rows()
     ensures small { SmallRow }
     ensures large { LargeRow }
     ensures runs { RunsRow }
+    ensures merge { MergeRow }
 {}

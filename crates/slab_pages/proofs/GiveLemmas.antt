@@ -7,7 +7,7 @@ use Rattle.slab_model.specs.declared.runs.Run.{Run}
 use Rattle.slab_model.specs.Runs.{IsApart, AreSound, is_covered, page_total, pages_from, pages_before, merged_run, is_beside, first_fit, take_run, give_run}
 use Rattle.slab_model.proofs.RunLemmas.{AreSound-give, is_covered-give, is_covered-take, page_total-take, first_fit-covered, is_within-in}
 use Rattle.slab_pages.specs.Places.{free_head, pfree, descriptor, KeepsOthers, is_list_word, is_run_word}
-use Rattle.slab_pages.specs.Layout.{IsBusy, IsUsed}
+use Rattle.slab_pages.specs.Layout.{IsBusy, CanComeBack}
 use Rattle.slab_pages.specs.Steps.{SameWords, LaysList, FillsRun, Detaches, IsCleared, Relists, MarksUsed, TakesRun, GivesRun, IsAfter, IsBefore, without_run}
 use Rattle.slab_pages.proofs.PlaceLemmas.{descriptor-word, HasWords-kept, SameWords-then}
 use Rattle.slab_pages.proofs.WriteLemmas.{get-written, get-read, length-written}
@@ -166,7 +166,7 @@ taken_total n first runs found = page_total-take n runs first found
 -- ---- give
 
 -- the run that comes back is cleared, and the list stays
-pub given_clear : (count first n : ℕ) (runs : List Run) (old new : List ℕ) → LaysList count old runs → IsUsed count old runs (record { first = first; pages = n }) → FillsRun old new first n 0 → LaysList count new runs
+pub given_clear : (count first n : ℕ) (runs : List Run) (old new : List ℕ) → LaysList count old runs → CanComeBack count old runs (record { first = first; pages = n }) → FillsRun old new first n 0 → LaysList count new runs
 given_clear count first n runs old new h used fills = LaysList-kept count old new runs fills.same_length (range_head old new first n fills.others) (λ page c. range_other old new first n page fills.others (outside page c)) h where
   outside : (page : ℕ) → is_covered page runs ≡ true → (page < first) ⊎ (first + n ≤ page)
   outside page c = elim (cases_lt page first) [
@@ -183,7 +183,7 @@ busy_kept old new page same busy = elim busy [
   | inr z ↦ inr (same.next ∙ z.0, λ e. z.1 (sym same.slab ∙ e))
 ]
 
-pub given_after : (count first n : ℕ) (runs : List Run) (old new : List ℕ) → LaysList count old runs → IsUsed count old runs (record { first = first; pages = n }) → FillsRun old new first n 0 → IsAfter count new runs (first + n)
+pub given_after : (count first n : ℕ) (runs : List Run) (old new : List ℕ) → LaysList count old runs → CanComeBack count old runs (record { first = first; pages = n }) → FillsRun old new first n 0 → IsAfter count new runs (first + n)
 given_after count first n runs old new h used fills = elim (cases_eq (first + n) count) [
   | inl e ↦ inl e
   | inr ne ↦ by_cover (is_covered (first + n) runs) refl ne
@@ -192,7 +192,7 @@ given_after count first n runs old new h used fills = elim (cases_eq (first + n)
   by_cover true c ne = inr (inl (subst (λ (k : ℕ). 0 < pages_from k runs) (omega (arith, used.some)) (covered-from count runs (first + n - 1) h.sound (used.used (first + n - 1) (omega (arith, used.some)) (omega (arith, used.some))) (subst (λ (k : ℕ). is_covered k runs ≡ true) (omega (arith, used.some)) c))))
   by_cover false c ne = let low : first + n < count = omega (arith, used.within, ne) in inr (inr (low, busy_kept old new (first + n) (range_other old new first n (first + n) fills.others (inr (omega arith))) (used.after low c)))
 
-pub given_before : (count first n : ℕ) (runs : List Run) (old mid new : List ℕ) (after : ℕ) → LaysList count old runs → IsUsed count old runs (record { first = first; pages = n }) → FillsRun old mid first n 0 → Detaches count runs mid new (first + n) after → (first ≡ 0) ⊎ IsBefore count new (without_run (first + n) runs) first
+pub given_before : (count first n : ℕ) (runs : List Run) (old mid new : List ℕ) (after : ℕ) → LaysList count old runs → CanComeBack count old runs (record { first = first; pages = n }) → FillsRun old mid first n 0 → Detaches count runs mid new (first + n) after → (first ≡ 0) ⊎ IsBefore count new (without_run (first + n) runs) first
 given_before count first n runs old mid new after h used fills detach = elim (cases_eq first 0) [
   | inl e ↦ inl e
   | inr ne ↦ inr (by_cover (is_covered (first - 1) runs) refl ne)
@@ -227,7 +227,7 @@ pub record Merges (count first n : ℕ) (runs : List Run) (new : List ℕ) (befo
   pub cleared : IsCleared count new (without_run (first - before) (without_run (first + n) runs)) (record { first = first - before; pages = before + n + after })
   pub list : joined_run first n before after ∷ without_run (first - before) (without_run (first + n) runs) ≡ give_run (record { first = first; pages = n }) runs
 
-pub merges : (count first n : ℕ) (runs : List Run) (old one two three : List ℕ) (after before : ℕ) → LaysList count old runs → IsUsed count old runs (record { first = first; pages = n }) → FillsRun old one first n 0 → Detaches count runs one two (first + n) after → before ≡ pages_before first (without_run (first + n) runs) → Detaches count (without_run (first + n) runs) two three (first - before) before → Merges count first n runs three before after
+pub merges : (count first n : ℕ) (runs : List Run) (old one two three : List ℕ) (after before : ℕ) → LaysList count old runs → CanComeBack count old runs (record { first = first; pages = n }) → FillsRun old one first n 0 → Detaches count runs one two (first + n) after → before ≡ pages_before first (without_run (first + n) runs) → Detaches count (without_run (first + n) runs) two three (first - before) before → Merges count first n runs three before after
 merges count first n runs old one two three after before h used fills d1 is d2 =
     let run : Run = record { first = first; pages = n } in
     let free = used.used first (omega arith) (omega (arith, used.some)) in
@@ -274,7 +274,7 @@ merges count first n runs old one two three after before h used fills d1 is d2 =
         by_cover true c = absurd (elim (covered-without count runs (first + n) page h.sound c) [ inl l ↦ omega (arith, l, low) | inr g ↦ omega (arith, g, high) ])
         by_cover false c = c
 
-pub given : (count first n : ℕ) (runs : List Run) (old one two three four new : List ℕ) (after before v : ℕ) → LaysList count old runs → IsUsed count old runs (record { first = first; pages = n }) → FillsRun old one first n 0 → Detaches count runs one two (first + n) after → Detaches count (without_run (first + n) runs) two three (first - before) before → Merges count first n runs three before after → Relists count (record { first = first - before; pages = before + n + after } ∷ without_run (first - before) (without_run (first + n) runs)) (record { first = first - before; pages = before + n + after } ∷ without_run (first - before) (without_run (first + n) runs)) three four → new ≡ set four pfree v → v ≡ get_or old pfree 0 + n → GivesRun count runs old new (record { first = first; pages = n })
+pub given : (count first n : ℕ) (runs : List Run) (old one two three four new : List ℕ) (after before v : ℕ) → LaysList count old runs → CanComeBack count old runs (record { first = first; pages = n }) → FillsRun old one first n 0 → Detaches count runs one two (first + n) after → Detaches count (without_run (first + n) runs) two three (first - before) before → Merges count first n runs three before after → Relists count (record { first = first - before; pages = before + n + after } ∷ without_run (first - before) (without_run (first + n) runs)) (record { first = first - before; pages = before + n + after } ∷ without_run (first - before) (without_run (first + n) runs)) three four → new ≡ set four pfree v → v ≡ get_or old pfree 0 + n → GivesRun count runs old new (record { first = first; pages = n })
 given count first n runs old one two three four new after before v h used fills d1 d2 m adds is counts =
     let run : Run = record { first = first; pages = n } in
     let after_list = give_run run runs in

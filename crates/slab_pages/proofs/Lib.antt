@@ -10,3 +10,4 @@ pub mod GiveLemmas
 pub mod WalkLemmas
 pub mod PagesLemmas
 pub mod OpeningLemmas
+pub mod ComeBackLemmas

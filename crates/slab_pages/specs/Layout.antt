@@ -33,8 +33,8 @@ pub record HasUsedRun (words : List ℕ) (page count : ℕ) : Type 0 where
 abbrev pub IsBusy : List ℕ → ℕ → Type 0
 IsBusy words page = (prev_at words (descriptor page) % 4 ≢ 0) ⊎ ((next_at words (descriptor page) ≡ 0) × (slab_at words (descriptor page) ≢ 0))
 
--- the run can come back to a zone of so many pages: none of its pages is free, and a page beside it that isn't free has the descriptor of one
-pub record IsUsed (count : ℕ) (words : List ℕ) (runs : List Run) (run : Run) : Type 0 where
+-- these pages can come back to a zone of so many: they lie in it, none of them is free, and a page right beside them that isn't free has the descriptor of one; that they are a whole used run isn't asked
+pub record CanComeBack (count : ℕ) (words : List ℕ) (runs : List Run) (run : Run) : Type 0 where
   pub some : 0 < run.pages
   pub within : run.first + run.pages ≤ count
   pub used : (page : ℕ) → run.first ≤ page → page < run.first + run.pages → is_covered page runs ≡ false

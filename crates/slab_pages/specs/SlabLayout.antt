@@ -56,11 +56,29 @@ pub record LaysClass (words : List ℕ) (class : ℕ) (pages : List ℕ) : Type 
   pub prev_is : prev_at words (class_head class) ≡ 0
   pub linked : LaysPages words class (class_head class) pages
 
--- the bits of a page's blocks: in its first words with those of its own blocks, in its slab word, or in the upper half of it
+-- the word of a small class's page that has the bit of this block
+abbrev pub bits_at : List ℕ → ℕ → ℕ → ℕ → ℕ
+bits_at words bytes page index = slice_index words (page_offset bytes page / 8 + index / 64)
+
+-- a small class's page: its bits stand in its first words, and those of its own blocks are set
+pub record LaysSmallBits (words : List ℕ) (bytes page class : ℕ) (used : List ℕ) : Type 0 where
+  pub shift : slab_at words (descriptor page) ≡ 3 + class
+  pub bits : (index : ℕ) → index < blocks_in_page class → IsBitSet (bits_at words bytes page index) (index % 64) ↔ ((index < first_index class) ⊎ (is_member index used ≡ true))
+
+-- a page of 64 blocks: its slab word is their bits
+abbrev pub LaysExactBits : List ℕ → ℕ → List ℕ → Type 0
+LaysExactBits words page used = (index : ℕ) → index < 64 → IsBitSet (slab_at words (descriptor page)) index ↔ (is_member index used ≡ true)
+
+-- a big class's page: its bits are the upper half of its slab word
+pub record LaysBigBits (words : List ℕ) (page class : ℕ) (used : List ℕ) : Type 0 where
+  pub shift : slab_at words (descriptor page) % 2 ^ 32 ≡ 3 + class
+  pub bits : (index : ℕ) → index < 32 → IsBitSet (slab_at words (descriptor page) / 2 ^ 32) index ↔ (is_member index used ≡ true)
+
+-- the bits of a page's blocks, each set where its block is used
 abbrev pub LaysBits : Kind → List ℕ → ℕ → ℕ → ℕ → List ℕ → Type 0
-LaysBits small words bytes page class used = (slab_at words (descriptor page) ≡ 3 + class) × ((index : ℕ) → index < blocks_in_page class → IsBitSet (slice_index words (page_offset bytes page / 8 + index / 64)) (index % 64) ↔ ((index < first_index class) ⊎ (is_member index used ≡ true)))
-LaysBits exact words bytes page class used = (index : ℕ) → index < 64 → IsBitSet (slab_at words (descriptor page)) index ↔ (is_member index used ≡ true)
-LaysBits big words bytes page class used = (slab_at words (descriptor page) % 2 ^ 32 ≡ 3 + class) × ((index : ℕ) → index < 32 → IsBitSet (slab_at words (descriptor page) / 2 ^ 32) index ↔ (is_member index used ≡ true))
+LaysBits small words bytes page class used = LaysSmallBits words bytes page class used
+LaysBits exact words bytes page class used = LaysExactBits words page used
+LaysBits big words bytes page class used = LaysBigBits words page class used
 
 -- a page of a class: its bits, and where it is full the links of a page in no list
 pub record LaysClassPage (words : List ℕ) (bytes page class : ℕ) (used : List ℕ) : Type 0 where

@@ -1,7 +1,7 @@
 ghost use Rattle.std.specs.Prelude.{◌≡◌, ℕ, ◌+◌, ◌*◌, ◌<◌, ◌≤◌, ◌↔◌, length, false, List, IsTrue};
 ghost use Rattle.slab_model.specs.declared.runs.Run.{Run};
 ghost use Rattle.slab_model.specs.Runs.{is_covered, is_within};
-ghost use Rattle.slab_pages.specs.Layout.{IsBusy, IsUsed};
+ghost use Rattle.slab_pages.specs.Layout.{IsBusy, CanComeBack};
 ghost use Rattle.slab_pages.specs.Steps.{IsClearOfFree, LaysList};
 
 use crate::descriptors::{FREE_HEAD, next, offset_of, page_of, prev, slab};
@@ -95,12 +95,12 @@ fn is_settled_after(region: &Region, count: u64, page: u64) -> bool
 }
 
 // The `n` pages from `first` on can come back to a zone of `count` pages.
-pub(crate) fn is_used(region: &Region, count: u64, first: u64, n: u64) -> bool
+pub(crate) fn can_come_back(region: &Region, count: u64, first: u64, n: u64) -> bool
     requires some { 0 < n }
     requires within { first + n ≤ count }
     requires laid { ((runs : List Run) × LaysList count region.now runs) }
     ensures { let run : Run = record { first = first; pages = n } in
-        (runs : List Run) → LaysList count region.now runs → (IsTrue result ↔ IsUsed count region.now runs run) }
+        (runs : List Run) → LaysList count region.now runs → (IsTrue result ↔ CanComeBack count region.now runs run) }
 {
     if !is_apart(region, first, n) {
         return false;

@@ -33,6 +33,8 @@ pub struct Geometry {
 impl Geometry {
     /// The geometry of a zone of `bytes` bytes, at most 67,108,864, in pages of `2 ^ page_shift` bytes.
     ///
+    /// `TooSmall` comes exactly where `bytes` is below `LEAST_ZONE`.
+    ///
     /// After `ngx_slab_init`, with this project's header of 200 bytes.
     pub fn of(bytes: u64, page_shift: u32) -> Result<Geometry, TooSmall>
         requires small { bytes ≤ greatest_zone }
@@ -64,6 +66,7 @@ mod tests {
         assert!(rt; Geometry::of(32_767, 12) == Err(TooSmall));
         for (bytes, pages, start) in [
             (32_768, 7, 4096),
+            (33_664, 7, 4096),
             (1_048_576, 254, 8192),
             (10_485_760, 2544, 65_536),
         ] {

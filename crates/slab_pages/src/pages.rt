@@ -3,10 +3,10 @@ ghost use Rattle.slab_model.specs.declared.runs.Run.{Run};
 ghost use Rattle.slab_model.specs.Geometry.{pages_of};
 ghost use Rattle.slab_model.specs.Runs.{first_fit, give_run, page_total, take_run};
 ghost use Rattle.slab_pages.specs.Places.{Image, KeepsOthers, is_list_word, is_run_word};
-ghost use Rattle.slab_pages.specs.Layout.{HasUsedRun, IsUsed, LaysRuns};
+ghost use Rattle.slab_pages.specs.Layout.{HasUsedRun, CanComeBack, LaysRuns};
 ghost use Rattle.slab_pages.specs.SlabLayout.{IsOpened};
 
-use crate::checks::is_used;
+use crate::checks::can_come_back;
 use crate::geometry::Geometry;
 use crate::opening::prepare;
 use crate::runs::{PFREE, add_run, find_fit, give_pages, take_pages};
@@ -18,6 +18,7 @@ use zone_region::Region;
 /// A page of a zone, by its number from 0.
 #[derive(Clone, Copy, Debug, PartialEq, Eq)]
 pub struct Page {
+    /// The first page after the descriptors is number 0, and begins at the zone's `start`.
     pub number: u64,
 }
 
@@ -47,6 +48,8 @@ impl Model for Pages {
 
 impl Pages {
     /// A fresh zone: all pages are free, in one run, and the header is written.
+    ///
+    /// `NoMemory` comes where there is no memory for the zone's bytes, and for nothing else.
     pub fn open(alloc: Global, g: Geometry) -> Result<Pages, NoMemory>
         ensures { IfOk result (λ pages. IsOpened g.bytes pages) }
     {
@@ -67,9 +70,11 @@ impl Pages {
         self.geometry
     }
 
-    /// The number of free pages.
+    /// The number of free pages. The words always lay out one list of free runs, and only one, whose pages these are.
     pub fn free_count(&self) -> u64
-        ensures { (runs : List Run) → LaysRuns self.now runs → result ≡ page_total runs }
+        ensures laid { ((runs : List Run) × LaysRuns self.now runs) }
+        ensures only { (xs ys : List Run) → LaysRuns self.now xs → LaysRuns self.now ys → xs ≡ ys }
+        ensures count { (runs : List Run) → LaysRuns self.now runs → result ≡ page_total runs }
     {
         self.region.load(PFREE)
     }
@@ -93,7 +98,7 @@ impl Pages {
     pub fn set_word(&mut self, w: u64, v: u64)
         requires within { w < length self.old.words }
         requires not_listed { is_list_word w ≡ false }
-        requires not_free { ((runs : List Run) × LaysRuns self.old runs × (is_run_word runs w ≡ false)) }
+        requires not_free { (runs : List Run) → LaysRuns self.old runs → is_run_word runs w ≡ false }
         ensures set { self.new ≡ record { bytes = self.old.bytes; words = slice_set self.old.words w v } }
         ensures laid { (runs : List Run) → LaysRuns self.old runs → LaysRuns self.new runs }
     {
@@ -128,27 +133,32 @@ impl Pages {
     ///
     /// It walks the list of free runs for each page.
     pub fn can_put(&self, p: Page, n: u64) -> bool
+        ensures laid { ((runs : List Run) × LaysRuns self.now runs) }
         ensures yes { let run : Run = record { first = p.number; pages = n } in
             IsTrue result →
-            ((runs : List Run) × LaysRuns self.now runs × IsUsed (pages_of self.now.bytes) self.now.words runs run) }
+            (runs : List Run) → LaysRuns self.now runs → CanComeBack (pages_of self.now.bytes) self.now.words runs run }
         ensures whenever { let run : Run = record { first = p.number; pages = n } in
-            (runs : List Run) → LaysRuns self.now runs → IsUsed (pages_of self.now.bytes) self.now.words runs run →
+            (runs : List Run) → LaysRuns self.now runs → CanComeBack (pages_of self.now.bytes) self.now.words runs run →
             IsTrue result }
     {
         let pages = self.geometry.pages;
         if n == 0 || p.number >= pages || n > pages - p.number {
             return false;
         }
-        is_used(&self.region, pages, p.number, n)
+        can_come_back(&self.region, pages, p.number, n)
     }
 
-    /// Gives back the used run of `n` pages from `p` on. It is merged with the free run right after it and with
-    /// the one right before it, and goes to the head of the list.
+    /// Gives back the `n` pages from `p` on. They are merged with the free run right after them and with the one
+    /// right before them, and the merged run goes to the head of the list.
     ///
-    /// It reads the descriptors next to the run and doesn't walk the list, so its time doesn't grow with it.
+    /// It asks that there are such pages, at least one, that none of them is free, and that a page right beside
+    /// them that isn't free has the descriptor of one; `can_put` is the test. It doesn't ask that they are a whole
+    /// run as `take` gave it: a caller that gives back a part of one has to see to the descriptors of the rest.
+    ///
+    /// It reads the descriptors next to the pages and doesn't walk the list, so its time doesn't grow with it.
     pub fn put(&mut self, p: Page, n: u64)
         requires { let run : Run = record { first = p.number; pages = n } in
-            ((runs : List Run) × LaysRuns self.old runs × IsUsed (pages_of self.old.bytes) self.old.words runs run) }
+            (runs : List Run) → LaysRuns self.old runs → CanComeBack (pages_of self.old.bytes) self.old.words runs run }
         ensures laid { let run : Run = record { first = p.number; pages = n } in
             (runs : List Run) → LaysRuns self.old runs → LaysRuns self.new (give_run run runs) }
         ensures kept { let run : Run = record { first = p.number; pages = n } in

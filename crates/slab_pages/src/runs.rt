@@ -2,7 +2,7 @@ ghost use Rattle.std.specs.Prelude.{◌≡◌, ◌≢◌, ◌⊎◌, ℕ, ◌+�
 ghost use Rattle.slab_model.specs.declared.runs.Run.{Run};
 ghost use Rattle.slab_model.specs.Runs.{first_fit, give_run, is_covered, page_total, pages_before, pages_from, take_run};
 ghost use Rattle.slab_pages.specs.Places.{descriptor, next_at, pfree, prev_at};
-ghost use Rattle.slab_pages.specs.Layout.{IsUsed};
+ghost use Rattle.slab_pages.specs.Layout.{CanComeBack};
 ghost use Rattle.slab_pages.specs.Steps.{Detaches, GivesRun, IsAfter, IsBefore, IsCleared, LaysList, MarksUsed, Relists, TakesRun, Unlinks, start_at};
 
 use crate::descriptors::{
@@ -214,10 +214,10 @@ pub(crate) fn take_pages(region: &mut Region, first: u64, n: u64)
 // Gives `n` pages from page `first` on back to a zone of `count` pages, and counts them.
 pub(crate) fn give_pages(region: &mut Region, count: u64, first: u64, n: u64)
     requires { let run : Run = record { first = first; pages = n } in
-        ((runs : List Run) × LaysList count region.old runs × IsUsed count region.old runs run ×
+        ((runs : List Run) × LaysList count region.old runs × CanComeBack count region.old runs run ×
         (slice_index region.old pfree ≡ page_total runs)) }
     ensures { let run : Run = record { first = first; pages = n } in
-        (runs : List Run) → LaysList count region.old runs → IsUsed count region.old runs run →
+        (runs : List Run) → LaysList count region.old runs → CanComeBack count region.old runs run →
         slice_index region.old pfree ≡ page_total runs →
         GivesRun count runs region.old region.new run }
 {

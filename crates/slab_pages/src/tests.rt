@@ -112,6 +112,25 @@ const FIXED: [(u64, u64, u64); 16] = [
     (0, 50, 0x188),
 ];
 
+/// The words that aren't 0, but for `FIXED`, once pages 0 to 5 are taken one by one and 2, 0, 4 and 3 come back:
+/// page 3 merges with 2 and 4, and their run stands before those of pages 0 and 6.
+const MERGED: [(u64, u64, u64); 14] = [
+    (0, 7, 0x2f0),
+    (0, 10, 5),
+    (0, 88, 1),
+    (0, 89, 0x350),
+    (0, 90, 0x2f0),
+    (0, 91, ONE),
+    (0, 94, 3),
+    (0, 95, 0x2c0),
+    (0, 96, 0x30),
+    (0, 102, 0x2f0),
+    (0, 103, ONE),
+    (0, 106, 1),
+    (0, 107, 0x30),
+    (0, 108, 0x2c0),
+];
+
 /// The page that is taken or comes back, after step 0.
 const STEPS: [(bool, u64); 8] = [
     (true, 0),
@@ -133,10 +152,10 @@ fn value_in(entries: &[(u64, u64, u64)], step: u64, w: u64) -> u64 {
     0
 }
 
-// Each word of the zone is the one that the tables give for this step, or 0.
-fn expect_words<R: Abort>(rt: &R, pages: &Pages, step: u64) {
+// Each word of the zone is the one that the table gives for this step, or that of `FIXED`, or 0.
+fn expect_words<R: Abort>(rt: &R, pages: &Pages, table: &[(u64, u64, u64)], step: u64) {
     for w in 0..pages.word_count() {
-        let want = value_in(&WORDS, step, w) | value_in(&FIXED, 0, w);
+        let want = value_in(table, step, w) | value_in(&FIXED, 0, w);
         assert_eq!(*rt; pages.word(w), want, "word {w} after step {step}");
     }
 }
@@ -193,7 +212,7 @@ fn three_pages(rt: HostRuntime) -> Result<(), Fail> {
     let mut pages = Pages::open(rt.alloc(), Geometry::of(32_768, 12)?)?;
     let mut plain = PlainSlab::open(rt.alloc(), 32_768)?;
     let mut step = 0;
-    expect_words(&rt, &pages, step);
+    expect_words(&rt, &pages, &WORDS, step);
     for (takes, number) in STEPS {
         if takes {
             assert_eq!(rt;
@@ -204,10 +223,35 @@ fn three_pages(rt: HostRuntime) -> Result<(), Fail> {
             put_both(&rt, rt.alloc(), &mut pages, &mut plain, number, 1)?;
         }
         step = number_after(step);
-        expect_words(&rt, &pages, step);
+        expect_words(&rt, &pages, &WORDS, step);
         assert_eq!(rt; pages.free_count(), plain.free_pages(), "step {step}");
     }
     assert_eq!(rt; pages.take(8), None);
+    Ok(())
+}
+
+#[test]
+fn merge_on_both_sides(rt: HostRuntime) -> Result<(), Fail> {
+    let mut pages = Pages::open(rt.alloc(), Geometry::of(32_768, 12)?)?;
+    for number in 0..6u64 {
+        assert_eq!(rt; pages.take(1), Some(Page { number }));
+    }
+    for number in [2, 0, 4, 3] {
+        put(&rt, &mut pages, number, 1);
+    }
+    expect_words(&rt, &pages, &MERGED, 0);
+    Ok(())
+}
+
+/// A word that the free runs aren't kept in: `log_ctx`, word 20.
+#[test]
+fn one_word(rt: HostRuntime) -> Result<(), Fail> {
+    let mut pages = Pages::open(rt.alloc(), Geometry::of(32_768, 12)?)?;
+    assert!(rt; 20 < pages.word_count());
+    pages.set_word(20, 0x1040);
+    assert_eq!(rt; word(&rt, &pages, 20), 0x1040);
+    pages.set_word(20, 0);
+    expect_words(&rt, &pages, &WORDS, 0);
     Ok(())
 }
 
@@ -256,7 +300,7 @@ fn next_draw(state: u64) -> u64 {
         .wrapping_add(1_442_695_040_888_963_407)
 }
 
-// One generated step: pages are taken, or a run that is held comes back.
+// One generated step: pages are taken, or a run that is held comes back. Whether pages were asked for in vain.
 fn one_step<R: Abort>(
     rt: &R,
     alloc: Global,
@@ -264,42 +308,52 @@ fn one_step<R: Abort>(
     plain: &mut PlainSlab,
     held: &mut Vec<(u64, u64)>,
     draw: u64,
-) -> Result<(), Fail> {
+) -> Result<bool, Fail> {
     let n = 1 + draw / 8 % 5;
     if draw % 8 < 5 || held.is_empty() {
-        if let Some(number) = take_both(rt, alloc, pages, plain, n)? {
-            held.push((number, n))?;
-        }
-        return Ok(());
+        return match take_both(rt, alloc, pages, plain, n)? {
+            Some(number) => {
+                held.push((number, n))?;
+                Ok(false)
+            }
+            None => Ok(true),
+        };
     }
     let (number, length) = held.swap_remove((draw / 8) as usize % held.len());
-    put_both(rt, alloc, pages, plain, number, length)
+    put_both(rt, alloc, pages, plain, number, length)?;
+    Ok(false)
+}
+
+// Generated steps in a zone of `bytes` bytes. How often pages were asked for in vain.
+fn generated_steps<R: Abort>(rt: &R, alloc: Global, bytes: u64) -> Result<u64, Fail> {
+    assert!(*rt; 32_768 <= bytes && bytes <= 67_108_864);
+    let mut pages = Pages::open(alloc, Geometry::of(bytes, 12)?)?;
+    let mut plain = PlainSlab::open(alloc, bytes)?;
+    let mut held: Vec<(u64, u64)> = Vec::new(alloc);
+    let mut state = 7u64;
+    let mut vain = 0u64;
+    for step in 0..2000u64 {
+        state = next_draw(state);
+        if one_step(rt, alloc, &mut pages, &mut plain, &mut held, state >> 33)? {
+            vain = number_after(vain);
+        }
+        assert_eq!(*rt; pages.free_count(), plain.free_pages(), "step {step}");
+        if step % 50 == 0 {
+            assert_eq!(*rt; listed_pages(rt, &pages), pages.free_count(), "step {step}");
+        }
+    }
+    Ok(vain)
 }
 
 #[test]
 fn generated(rt: HostRuntime) -> Result<(), Fail> {
-    let mut pages = Pages::open(rt.alloc(), Geometry::of(10_485_760, 12)?)?;
-    let mut plain = PlainSlab::open(rt.alloc(), 10_485_760)?;
-    let mut held: Vec<(u64, u64)> = Vec::new(rt.alloc());
-    let mut state = 7u64;
-    for step in 0..2000u64 {
-        state = next_draw(state);
-        one_step(
-            &rt,
-            rt.alloc(),
-            &mut pages,
-            &mut plain,
-            &mut held,
-            state >> 33,
-        )?;
-        assert_eq!(rt; pages.free_count(), plain.free_pages(), "step {step}");
-        if step % 50 == 0 {
-            assert_eq!(rt;
-                listed_pages(&rt, &pages),
-                pages.free_count(),
-                "step {step}"
-            );
-        }
-    }
+    generated_steps(&rt, rt.alloc(), 10_485_760)?;
+    Ok(())
+}
+
+/// The least zone, of seven pages, runs dry again and again.
+#[test]
+fn generated_until_dry(rt: HostRuntime) -> Result<(), Fail> {
+    assert!(rt; generated_steps(&rt, rt.alloc(), 32_768)? > 100);
     Ok(())
 }

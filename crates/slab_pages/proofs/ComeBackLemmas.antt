@@ -1,0 +1,81 @@
+-- In a sound slab whose words are laid out, each used run and each page of a class can come back.
+use Rattle.std.proofs.Common.{ℕ, ◌≡◌, ◌≢◌, ◌+◌, ◌%◌, ◌<◌, true, false, not, List, [], ◌∷◌, refl, arith, inl, inr, sym, ap, ◌∙◌}
+use Rattle.std.proofs.lemmas.Bool.{cases_eq, cases_Bool}
+use Rattle.std.proofs.lemmas.Grind.{common_steps}
+use Rattle.slab_model.specs.declared.page.PageState.{PageState}
+use Rattle.slab_model.specs.declared.page.PageState.TheVariants.{Free, First, Later, Class}
+use Rattle.slab_model.specs.Geometry.{Kind, small, exact, big, kind_of, pages_of}
+use Rattle.slab_model.specs.Numbers.{is_member}
+use Rattle.slab_model.specs.Runs.{is_covered}
+use Rattle.slab_model.specs.Slab.{Slab, IsSound, page_at, list_of, is_full, is_free, has_room}
+use Rattle.slab_model.proofs.StateLemmas.{has_room-own}
+use Rattle.slab_pages.specs.Places.{descriptor, prev_at}
+use Rattle.slab_pages.specs.Layout.{IsBusy, CanComeBack}
+use Rattle.slab_pages.specs.SlabLayout.{LaysSlab, LaysPages, class_head, type_of}
+
+-- descriptors begin at multiples of 8, so the low bits of a link are free for the type
+eight : (page : ℕ) → descriptor page % 8 ≡ 0
+unfolding descriptor
+eight page = omega arith
+
+-- a link with a class's type isn't one of whole pages
+typed : (k : Kind) (n : ℕ) → n % 8 ≡ 0 → (n + type_of k) % 4 ≢ 0
+typed small n h = λ e. omega (arith, h, e)
+typed exact n h = λ e. omega (arith, h, e)
+typed big n h = λ e. omega (arith, h, e)
+
+-- nor is the type alone
+plain : (k : Kind) → type_of k % 4 ≢ 0
+plain small = λ e. omega (arith, e)
+plain exact = λ e. omega (arith, e)
+plain big = λ e. omega (arith, e)
+
+-- a page in a class's list has its type
+listed : (words : List ℕ) (class o page : ℕ) (pages : List ℕ) → o % 8 ≡ 0 → LaysPages words class o pages → is_member page pages ≡ true → prev_at words (descriptor page) % 4 ≢ 0
+listed words class o page [] e h m = absurd (none page m) where
+  none : (page : ℕ) → is_member page [] ≡ true → ⊥
+  none page h = cc
+listed words class o page (q ∷ qs) e h m = elim (cases_eq page q) [
+  | inl same ↦ λ z. typed (kind_of class) o e (ap (λ n. n % 4) (sym (ap (λ n. prev_at words (descriptor n)) same ∙ h.1)) ∙ z)
+  | inr other ↦ listed words class (descriptor q) page qs (eight q) h.2 (rest page q qs other m)
+] where
+  rest : (page q : ℕ) (qs : List ℕ) → page ≢ q → is_member page (q ∷ qs) ≡ true → is_member page qs ≡ true
+  rest page q qs other m = grind (arith, common_steps, other, m)
+
+-- a page that isn't free has the descriptor of one
+pub busy : (words : List ℕ) (slab : Slab) (page : ℕ) → IsSound slab → LaysSlab words slab → page < pages_of slab.bytes → is_covered page slab.runs ≡ false → IsBusy words page
+busy words slab page s l below free = go (page_at slab.pages page) refl where
+  go : (state : PageState) → page_at slab.pages page ≡ state → IsBusy words page
+  go Free is = absurd (wrong (sym (ap is_free is) ∙ s.free page below ∙ free)) where
+    wrong : is_free Free ≡ false → ⊥
+    wrong h = cc
+  go (First n) is = let h = l.used_runs page n is in inr (h.first.next_is, λ e. omega (arith, sym h.first.slab_is ∙ e))
+  go Later is = let b = s.used_runs.belongs page is in let h = (l.used_runs b.0 b.1 b.2).later page b.3 b.4 in inr (h.next_is, λ e. omega (arith, sym h.slab_is ∙ e))
+  go (Class class used) is = elim (cases_Bool (is_full class used)) [
+    | inl full ↦ inl (λ z. plain (kind_of class) (ap (λ n. n % 4) (sym ((l.classes page class used is).prev_if_full full)) ∙ z))
+    | inr room ↦ let known = (s.used page class used is).known in inl (listed words class (class_head class) page (list_of slab class) (omega arith) (l.lists class known).linked
+        ((s.lists class known).just page ∙ ap (has_room class) is ∙ has_room-own class used ∙ ap not room))
+  ]
+
+-- a used run can come back
+pub run-back : (words : List ℕ) (slab : Slab) (page n : ℕ) → IsSound slab → LaysSlab words slab → page_at slab.pages page ≡ First n → CanComeBack (pages_of slab.bytes) words slab.runs (record { first = page; pages = n })
+run-back words slab page n s l is = let f = s.used_runs.followed page n is in record {
+  some = f.0;
+  within = f.1;
+  used = λ q low high. elim (cases_eq q page) [
+    | inl e ↦ sym (s.free q (omega (arith, high, f.1))) ∙ ap (λ p. is_free (page_at slab.pages p)) e ∙ ap is_free is
+    | inr ne ↦ sym (s.free q (omega (arith, high, f.1))) ∙ ap is_free (f.2 q (omega (arith, low, ne)) high)
+  ];
+  before = λ q e free. busy words slab q s l (omega (arith, e, f.0, f.1)) free;
+  after = λ low free. busy words slab (page + n) s l low free;
+}
+
+-- the page of a class can come back
+pub page-back : (words : List ℕ) (slab : Slab) (page class : ℕ) (indexes : List ℕ) → IsSound slab → LaysSlab words slab → page_at slab.pages page ≡ Class class indexes → page < pages_of slab.bytes → CanComeBack (pages_of slab.bytes) words slab.runs (record { first = page; pages = 1 })
+page-back words slab page class indexes s l is below = record {
+  some = omega arith;
+  within = omega (arith, below);
+  used = λ q low high. let e : q ≡ page = omega (arith, low, high) in sym (s.free q (omega (arith, e, below))) ∙ ap (λ p. is_free (page_at slab.pages p)) e ∙ ap is_free is;
+  before = λ q e free. busy words slab q s l (omega (arith, e, below)) free;
+  after = λ low free. busy words slab (page + 1) s l low free;
+}
