@@ -7,24 +7,27 @@ use Rattle.zonereplay.specs.declared.stop.Stop.TheVariants.{ReadFault, TooLong, 
 use Rattle.zonereplay.specs.Plan.{Plan, Ends, Reaches, log_fault, usage}
 use Rattle.zonereplay.specs.Plan.Plan.{refuses}
 use Rattle.zonereplay.specs.Plan.End.{refused}
-use Rattle.zonereplay.specs.Answers.{Devices, Told, TakesNone, Due, Answers, IsFree, IsComplete}
+use Rattle.zonereplay.specs.Answers.{Taken, Devices, Told, TakesNone, Due, Answers, IsFree, IsComplete}
 use Rattle.zonereplay.specs.Answers.Answers.{done, told, out_failed, err_failed, no_memory}
 use Rattle.zonereplay.specs.Stops.{StopsBy, StopTold}
 
+known_kept : (known : Option (List ℕ)) → Keeps known known
+known_kept None = tt
+known_kept (Some text) = refl
+
 -- a sink that was left alone took nothing
-none_taken : (known : Option (List ℕ)) → Keeps known known
-none_taken None = tt
-none_taken (Some text) = refl
+none_taken : (before after : Taken) → after ≡ before → TakesNone before after
+none_taken before after is = rw is (record { kept = known_kept before.text; calm = refl })
 
 -- a line that was due was told, or standard error refused it
 due_told : (plan : Plan) (before after : Devices) (status : ℕ) (line : List ℕ) (answer : ℕ) → after.out ≡ before.out → Due plan before after status line → Told status line answer before.err after.err → Answers plan before after answer
 due_told plan before after status line answer out due (inl (is, took)) =
-    told (record { line = line; due = subst (λ (s : ℕ). Due plan before after s line) (sym is) due; out = rw out (none_taken before.out.text); err = took })
-due_told plan before after status line answer out due (inr (is, rose)) =
-    err_failed is (record { status = status; line = line; due = due; out = rw out (none_taken before.out.text); rose = rose })
+    told (record { line = line; due = subst (λ (s : ℕ). Due plan before after s line) (sym is) due; out = none_taken before.out after.out out; err = took })
+due_told plan before after status line answer out due (inr (is, failed)) =
+    err_failed is (record { status = status; line = line; due = due; out = none_taken before.out after.out out; err = failed })
 
 want : (plan : Plan) (before after : Devices) (answer : ℕ) → after.out ≡ before.out → answer ≡ 7 → TakesNone before.err after.err → Answers plan before after answer
-want plan before after answer out is none = no_memory is (record { out = rw out (none_taken before.out.text); err = none })
+want plan before after answer out is none = no_memory is (record { out = none_taken before.out after.out out; err = none })
 
 -- a stop is answered by its cause
 pub stop_answers : (plan : Plan) (before after : Devices) (name : List ℕ) (stop : Stop) (answer : ℕ) → after.out ≡ before.out → Reaches before.contents plan name

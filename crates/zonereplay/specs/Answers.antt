@@ -28,13 +28,19 @@ devices contents faults out out_faults err err_faults = record {
 
 -- ---- one sink
 
--- a sink took this text
+-- a sink took these bytes
 abbrev pub Takes : Taken → Taken → List ℕ → Type 0
 Takes before after text = Appends before.text after.text text
 
--- a sink took nothing
-abbrev pub TakesNone : Taken → Taken → Type 0
-TakesNone before after = Keeps before.text after.text
+-- a sink took this text whole, and no write failed
+pub record TakesWhole (before after : Taken) (text : List ℕ) : Type 0 where
+  pub took : Takes before after text
+  pub calm : after.faults ≡ before.faults
+
+-- a sink took nothing, and no write failed
+pub record TakesNone (before after : Taken) : Type 0 where
+  pub kept : Keeps before.text after.text
+  pub calm : after.faults ≡ before.faults
 
 -- a write to a sink failed, after a proper prefix of the text
 pub record TakesPart (before after : Taken) (text : List ℕ) : Type 0 where
@@ -43,15 +49,29 @@ pub record TakesPart (before after : Taken) (text : List ℕ) : Type 0 where
   pub proper : part < length text
   pub took : Takes before after (take part text)
 
--- the sink took this line, and the answer is this status; or a write failed, and the answer is 5
+-- a text was written to a sink, if that took it
+abbrev pub Tries : Taken → Taken → List ℕ → Type 0
+Tries before after text = TakesWhole before after text ⊎ TakesPart before after text
+
+-- the line that tells of a failed write
+abbrev pub write_fault : List ℕ
+write_fault = codes "write fault\n"
+
+-- a write of this line failed, and after it `write fault` was written to the same sink, if that took it
+pub record TakesFault (before after : Taken) (line : List ℕ) : Type 0 where
+  pub between : Taken
+  pub line_failed : TakesPart before between line
+  pub fault_told : Tries between after write_fault
+
+-- the sink took this line, and the answer is this status; or a write of it failed, and the answer is 5
 abbrev pub Told : ℕ → List ℕ → ℕ → Taken → Taken → Type 0
-Told status line answer before after = ((answer ≡ status) × Takes before after line) ⊎ ((answer ≡ 5) × Rose before.faults after.faults)
+Told status line answer before after = ((answer ≡ status) × TakesWhole before after line) ⊎ ((answer ≡ 5) × TakesFault before after line)
 
 -- the lines were written and the answer is 0; or a write failed, the answer is 5 and standard error was told so, if it took that
 abbrev pub Wrote : List (List ℕ) → ℕ → Taken → Taken → Taken → Taken → Type 0
 Wrote lines answer out out_after err err_after =
-    ((answer ≡ 0) × Takes out out_after (concat lines) × TakesNone err err_after)
-    ⊎ ((answer ≡ 5) × TakesPart out out_after (concat lines) × (Takes err err_after (codes "write fault\n") ⊎ Rose err.faults err_after.faults))
+    ((answer ≡ 0) × TakesWhole out out_after (concat lines) × TakesNone err err_after)
+    ⊎ ((answer ≡ 5) × TakesPart out out_after (concat lines) × Tries err err_after write_fault)
 
 -- ---- the causes of the statuses
 
@@ -69,7 +89,7 @@ Due plan before after status line = Ends before.contents plan (refused status li
 pub record Written (plan : Plan) (before after : Devices) : Type 0 where
   pub lines : List (List ℕ)
   pub ends : Ends before.contents plan (written lines)
-  pub out : Takes before.out after.out (concat lines)
+  pub out : TakesWhole before.out after.out (concat lines)
   pub err : TakesNone before.err after.err
 
 -- a write of the text failed
@@ -77,22 +97,22 @@ pub record OutFault (plan : Plan) (before after : Devices) : Type 0 where
   pub lines : List (List ℕ)
   pub ends : Ends before.contents plan (written lines)
   pub out : TakesPart before.out after.out (concat lines)
-  pub err : Takes before.err after.err (codes "write fault\n") ⊎ Rose before.err.faults after.err.faults
+  pub err : Tries before.err after.err write_fault
 
 -- a line that was due was written
 pub record Refused (plan : Plan) (before after : Devices) (status : ℕ) : Type 0 where
   pub line : List ℕ
   pub due : Due plan before after status line
   pub out : TakesNone before.out after.out
-  pub err : Takes before.err after.err line
+  pub err : TakesWhole before.err after.err line
 
--- the writing of a line that was due failed
+-- a write of a line that was due failed
 pub record ErrFault (plan : Plan) (before after : Devices) : Type 0 where
   pub status : ℕ
   pub line : List ℕ
   pub due : Due plan before after status line
   pub out : TakesNone before.out after.out
-  pub rose : Rose before.err.faults after.err.faults
+  pub err : TakesFault before.err after.err line
 
 -- there was no memory, and nothing was written
 pub record WantOfMemory (before after : Devices) : Type 0 where

@@ -5,7 +5,7 @@ ghost use Rattle.zonereplay.specs.Answers.{devices, Answers, IsComplete, Wrote};
 
 use crate::output::write_lines;
 use crate::prepare::prepare_one;
-use crate::tell::{tell, tell_stop};
+use crate::tell::{tell_stop, tell_write_fault};
 use crate::words::read_one;
 use std::alloc::Global;
 use zone_outside::{Shelf, Sink, Text};
@@ -18,7 +18,7 @@ fn finish<O: Sink, E: Sink>(out: &mut O, err: &mut E, lines: &[Text]) -> u8
 {
     match write_lines(out, lines) {
         Ok(()) => 0,
-        Err(_) => tell(err, 5, b"write fault\n"),
+        Err(_) => tell_write_fault(err),
     }
 }
 

@@ -238,23 +238,36 @@ fn meets_failing_devices(rt: HostRuntime) -> Result<(), Fail> {
     Ok(())
 }
 
-/// Where standard error takes nothing, each status with a line becomes 5.
+/// Where standard error refuses these writes, a status with a line becomes 5, and it has taken this.
+fn refuse(
+    rt: &(impl AllocGlobal + Abort),
+    rate: &str,
+    text: MemText<'_>,
+    failing_opens: &[u64],
+    failing: &[u64],
+    want: &str,
+) -> Result<(), Fail> {
+    let mut out = MemSink::of(rt.alloc(), 1, &[]);
+    let mut err = MemSink::of(rt.alloc(), 1000, failing);
+    let words = ["one", rate, "0", "32768", "log"];
+    let status = status_of(rt, &words, text, failing_opens, &mut out, &mut err)?;
+    assert_eq!(rt; (status, out.bytes().len()), (5, 0), "{rate}");
+    assert_eq!(rt; err.bytes(), want.as_bytes(), "{rate}");
+    Ok(())
+}
+
+/// Each status with a line becomes 5 where standard error refuses the line, and `write fault` is told
+/// where it takes that.
 #[test]
 fn meets_a_failing_error_output(rt: HostRuntime) -> Result<(), Fail> {
     let piece = b"0123456789abcdef";
-    let rows = [
-        ("1r/x", MemText::of(b""), [0]),
-        ("1r/s", MemText::of(b"x\n"), [0]),
-        ("1r/s", MemText::of(b""), [1]),
-        ("1r/s", MemText::repeating(b"!", piece, 1_048_576), [0]),
-    ];
-    for (rate, text, opens) in rows {
-        let mut out = MemSink::of(rt.alloc(), 1, &[]);
-        let mut err = MemSink::of(rt.alloc(), 1000, &[1, 2]);
-        let words = ["one", rate, "0", "32768", "log"];
-        let status = status_of(&rt, &words, text, &opens, &mut out, &mut err)?;
-        assert_eq!(rt; status, 5, "{rate}");
-        assert_eq!(rt; (out.bytes().len(), err.bytes().len()), (0, 0), "{rate}");
+    let rows: [(&[u64], &str); 2] = [(&[1, 2], ""), (&[1], "write fault\n")];
+    for (failing, want) in rows {
+        refuse(&rt, "1r/x", MemText::of(b""), &[], failing, want)?;
+        refuse(&rt, "1r/s", MemText::of(b"x\n"), &[], failing, want)?;
+        refuse(&rt, "1r/s", MemText::of(b""), &[1], failing, want)?;
+        let long = MemText::repeating(b"!", piece, 1_048_576);
+        refuse(&rt, "1r/s", long, &[], failing, want)?;
     }
     Ok(())
 }
