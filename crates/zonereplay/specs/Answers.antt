@@ -1,5 +1,5 @@
 -- What a status says.
-use Rattle.std.specs.Prelude.{ℕ, ◌≡◌, ◌<◌, ◌⊎◌, List, Option, length, take, codes}
+use Rattle.std.specs.Prelude.{ℕ, ◌≡◌, ◌<◌, ◌≤◌, ◌⊎◌, List, Option, length, take, codes}
 use Rattle.std.specs.List.{concat}
 use Rattle.std.specs.Io.KnownBytes.{Appends, Keeps}
 use Rattle.zone_outside.specs.Faults.{Rose}
@@ -75,20 +75,27 @@ Wrote lines answer out out_after err err_after =
 
 -- ---- the causes of the statuses
 
+-- no file failed: the counts of faults of all names are as before
+abbrev pub FilesCalm : Devices → Devices → Type 0
+FilesCalm before after = (name : List ℕ) → after.faults name ≡ before.faults name
+
 -- a named file could not be opened or read
 pub record ReadFault (plan : Plan) (before after : Devices) : Type 0 where
   pub name : List ℕ
   pub named : Reaches before.contents plan name
   pub rose : Rose (before.faults name) (after.faults name)
 
--- a status with a line that is due on standard error: the plan ends so, or a named file had a fault
+-- a status with a line that is due on standard error: the plan ends so and no file failed, or a named file had a fault
 abbrev pub Due : Plan → Devices → Devices → ℕ → List ℕ → Type 0
-Due plan before after status line = Ends before.contents plan (refused status line) ⊎ ((status ≡ 4) × (line ≡ codes "read fault\n") × ReadFault plan before after)
+Due plan before after status line =
+    (Ends before.contents plan (refused status line) × FilesCalm before after)
+    ⊎ ((status ≡ 4) × (line ≡ codes "read fault\n") × ReadFault plan before after)
 
 -- all the text was written
 pub record Written (plan : Plan) (before after : Devices) : Type 0 where
   pub lines : List (List ℕ)
   pub ends : Ends before.contents plan (written lines)
+  pub files : FilesCalm before after
   pub out : TakesWhole before.out after.out (concat lines)
   pub err : TakesNone before.err after.err
 
@@ -96,6 +103,7 @@ pub record Written (plan : Plan) (before after : Devices) : Type 0 where
 pub record OutFault (plan : Plan) (before after : Devices) : Type 0 where
   pub lines : List (List ℕ)
   pub ends : Ends before.contents plan (written lines)
+  pub files : FilesCalm before after
   pub out : TakesPart before.out after.out (concat lines)
   pub err : Tries before.err after.err write_fault
 
@@ -116,6 +124,7 @@ pub record ErrFault (plan : Plan) (before after : Devices) : Type 0 where
 
 -- there was no memory, and nothing was written
 pub record WantOfMemory (before after : Devices) : Type 0 where
+  pub files : FilesCalm before after
   pub out : TakesNone before.out after.out
   pub err : TakesNone before.err after.err
 
@@ -138,3 +147,21 @@ pub record IsFree (plan : Plan) (before after : Devices) : Type 0 where
 -- where all is free, the job is done or there was no memory
 abbrev pub IsComplete : Plan → Devices → Devices → ℕ → Type 0
 IsComplete plan before after status = IsFree plan before after → (status ≡ 0) ⊎ (status ≡ 7)
+
+-- ---- a command
+
+-- no file failed, or a named one did and the status is 4, or 5 in its place
+abbrev pub IsCalmBut : Plan → Devices → Devices → ℕ → Type 0
+IsCalmBut plan before after status = FilesCalm before after ⊎ (((status ≡ 4) ⊎ (status ≡ 5)) × ReadFault plan before after)
+
+-- a command with this plan ended with this status
+pub record Does (plan : Plan) (before after : Devices) (status : ℕ) : Type 0 where
+  -- the status has its cause
+  pub answers : Answers plan before after status
+  -- with sound texts and devices without faults, the job is done or there was no memory
+  pub complete : IsComplete plan before after status
+  -- what the files hold stays
+  pub kept : (name : List ℕ) → after.contents name ≡ before.contents name
+  -- their counts never fall, and rise only where a named file failed
+  pub later : (name : List ℕ) → before.faults name ≤ after.faults name
+  pub calm : IsCalmBut plan before after status

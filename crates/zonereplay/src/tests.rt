@@ -110,6 +110,17 @@ fn prints_decisions(rt: HostRuntime) -> Result<(), Fail> {
     Ok(())
 }
 
+/// Where the clock runs back, `a` is stale at the moment 0 and leaves. A delay is by the rate.
+#[test]
+fn removes_stale_entries_and_delays(rt: HostRuntime) -> Result<(), Fail> {
+    let stale = "1 ok 0.000 0\n2 ok 0.000 0\n3 ok 0.000 0\n";
+    let words = ["one", "1r/s", "0", "32768", "log"];
+    expect(&rt, &words, "60000 a\n0 b\n60000 a\n", (0, stale, ""))?;
+    let delayed = "1 ok 0.000 0\n2 ok 1.000 500\n";
+    let words = ["one", "2r/s", "5", "32768", "log"];
+    expect(&rt, &words, "0 a\n0 a\n", (0, delayed, ""))
+}
+
 #[test]
 fn tells_faults(rt: HostRuntime) -> Result<(), Fail> {
     let one = ["one", "1r/s", "0", "32k", "log"];
@@ -288,5 +299,47 @@ fn limits_texts(rt: HostRuntime) -> Result<(), Fail> {
         assert_eq!(rt; (status, out.bytes().len()), (want, 0));
         assert_eq!(rt; err.bytes(), line.as_bytes());
     }
+    Ok(())
+}
+
+/// Runs `one` over a log that is a front and so many copies of a piece, and compares the status, how the
+/// text ends, and what standard error has.
+fn ends(
+    rt: &(impl AllocGlobal + Abort),
+    log: MemText<'_>,
+    want: (u8, &str, &str),
+) -> Result<(), Fail> {
+    let mut out = MemSink::of(rt.alloc(), 1000, &[]);
+    let mut err = MemSink::of(rt.alloc(), 1000, &[]);
+    let words = ["one", "1r/s", "0", "32768", "log"];
+    let status = status_of(rt, &words, log, &[], &mut out, &mut err)?;
+    assert_eq!(rt; status, want.0);
+    assert!(rt; out.bytes().ends_with(want.1.as_bytes()));
+    assert_eq!(rt; err.bytes(), want.2.as_bytes());
+    Ok(())
+}
+
+/// A log of 131,072 lines is read. One of a line more isn't, and where that line has no line feed, this
+/// is its fault.
+#[test]
+fn limits_lines(rt: HostRuntime) -> Result<(), Fail> {
+    let most = MemText::repeating(b"", b"0 a\n", 131_072);
+    ends(&rt, most, (0, "\n131072 busy 1.000\n", ""))?;
+    let more = MemText::repeating(b"", b"0 a\n", 131_073);
+    ends(&rt, more, (3, "", "log 131073 11\n"))?;
+    let unfinished = MemText::repeating(b"0 a", b"\n0 a", 131_072);
+    ends(&rt, unfinished, (3, "", "log 131073 1\n"))
+}
+
+/// A file that is there can't be opened.
+#[test]
+fn meets_a_failing_open(rt: HostRuntime) -> Result<(), Fail> {
+    let mut out = MemSink::of(rt.alloc(), 1000, &[]);
+    let mut err = MemSink::of(rt.alloc(), 1000, &[]);
+    let words = ["one", "1r/s", "0", "32768", "log"];
+    let text = MemText::of(THREE.as_bytes());
+    let status = status_of(&rt, &words, text, &[1], &mut out, &mut err)?;
+    assert_eq!(rt; (status, out.bytes().len()), (4, 0));
+    assert_eq!(rt; err.bytes(), b"read fault\n".as_slice());
     Ok(())
 }
