@@ -1,11 +1,11 @@
-ghost use Rattle.std.specs.Prelude.{◌≡◌, ◌≢◌, ◌≤◌, ◌⊎◌, ℕ, List, IsSome};
+ghost use Rattle.std.specs.Prelude.{IsSome};
 ghost use Rattle.zonereplay.specs.Words.{one_of};
 ghost use Rattle.zonereplay.specs.Plan.{plan_of};
-ghost use Rattle.zonereplay.specs.Answers.{devices, Answers, IsComplete, Wrote};
+ghost use Rattle.zonereplay.specs.Answers.{devices, Does, Wrote};
 
 use crate::output::write_lines;
 use crate::prepare::prepare_one;
-use crate::tell::{tell, tell_stop};
+use crate::tell::{tell_stop, tell_write_fault};
 use crate::words::read_one;
 use std::alloc::Global;
 use zone_outside::{Shelf, Sink, Text};
@@ -18,7 +18,7 @@ fn finish<O: Sink, E: Sink>(out: &mut O, err: &mut E, lines: &[Text]) -> u8
 {
     match write_lines(out, lines) {
         Ok(()) => 0,
-        Err(_) => tell(err, 5, b"write fault\n"),
+        Err(_) => tell_write_fault(err),
     }
 }
 
@@ -32,17 +32,10 @@ pub fn one_command<F: Shelf, O: Sink, E: Sink>(
     err: &mut E,
 ) -> u8
     requires { IsSome (one_of words.now) }
-    ensures answers { Answers (plan_of words.now)
+    ensures { Does (plan_of words.now)
         (devices (F.contents files.old) (F.faults files.old) (O.taken out.old) (O.faults out.old) (E.taken err.old) (E.faults err.old))
         (devices (F.contents files.new) (F.faults files.new) (O.taken out.new) (O.faults out.new) (E.taken err.new) (E.faults err.new))
         result }
-    ensures complete { IsComplete (plan_of words.now)
-        (devices (F.contents files.old) (F.faults files.old) (O.taken out.old) (O.faults out.old) (E.taken err.old) (E.faults err.old))
-        (devices (F.contents files.new) (F.faults files.new) (O.taken out.new) (O.faults out.new) (E.taken err.new) (E.faults err.new))
-        result }
-    ensures kept { (n : List ℕ) → F.contents files.new n ≡ F.contents files.old n }
-    ensures later { (n : List ℕ) → F.faults files.old n ≤ F.faults files.new n }
-    ensures calm { result ≢ 4 → result ≢ 5 → (n : List ℕ) → F.faults files.new n ≡ F.faults files.old n }
 {
     let Some((job, log)) = read_one(words) else {
         unreachable!()

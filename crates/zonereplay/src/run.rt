@@ -1,7 +1,8 @@
-ghost use Rattle.std.specs.Prelude.{◌≡◌, ◌≢◌, ◌≤◌, ◌⊎◌, ℕ, List, None, IsSome};
+ghost use Rattle.std.specs.Prelude.{◌≡◌, ◌⊎◌, IsSome};
 ghost use Rattle.zonereplay.specs.Words.{one_of};
-ghost use Rattle.zonereplay.specs.Plan.{plan_of};
-ghost use Rattle.zonereplay.specs.Answers.{devices, Answers, IsComplete};
+ghost use Rattle.zonereplay.specs.Plan.{plan_of, usage};
+ghost use Rattle.zonereplay.specs.Plan.Plan.{refuses};
+ghost use Rattle.zonereplay.specs.Answers.{devices, Does};
 
 use crate::commands::one_command;
 use crate::tell::tell;
@@ -34,24 +35,14 @@ pub fn run<R, F: Shelf, O: Sink, E: Sink>(
     out: &mut O,
     err: &mut E,
 ) -> u8
-    // Each status has its cause.
-    ensures answers { Answers (plan_of words.now)
+    // Each status has its cause, and with sound texts and devices without faults it is 0 or 7.
+    ensures does { Does (plan_of words.now)
         (devices (F.contents files.old) (F.faults files.old) (O.taken out.old) (O.faults out.old) (E.taken err.old) (E.faults err.old))
         (devices (F.contents files.new) (F.faults files.new) (O.taken out.new) (O.faults out.new) (E.taken err.new) (E.faults err.new))
         result }
     // 1 exactly for words of no form, but where the usage line can't be written.
-    ensures form { result ≡ 1 → one_of words.now ≡ None }
-    ensures no_form { one_of words.now ≡ None → (result ≡ 1) ⊎ (result ≡ 5) }
-    // With sound texts and devices without faults, the job is done or there was no memory.
-    ensures complete { IsComplete (plan_of words.now)
-        (devices (F.contents files.old) (F.faults files.old) (O.taken out.old) (O.faults out.old) (E.taken err.old) (E.faults err.old))
-        (devices (F.contents files.new) (F.faults files.new) (O.taken out.new) (O.faults out.new) (E.taken err.new) (E.faults err.new))
-        result }
-
-    // What the files hold stays, and their counts rise only with statuses 4 and 5.
-    ensures kept { (n : List ℕ) → F.contents files.new n ≡ F.contents files.old n }
-    ensures later { (n : List ℕ) → F.faults files.old n ≤ F.faults files.new n }
-    ensures calm { result ≢ 4 → result ≢ 5 → (n : List ℕ) → F.faults files.new n ≡ F.faults files.old n }
+    ensures form { result ≡ 1 → plan_of words.now ≡ refuses 1 usage }
+    ensures no_form { plan_of words.now ≡ refuses 1 usage → (result ≡ 1) ⊎ (result ≡ 5) }
 {
     match read_one(words) {
         Some(_) => one_command(alloc, words, files, out, err),

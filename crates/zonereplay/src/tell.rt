@@ -1,6 +1,6 @@
 ghost use Rattle.std.specs.Prelude.{◌≡◌, ◌++◌, OnOk, OnErr, IfOk};
 ghost use Rattle.zonereplay.specs.Plan.{log_fault};
-ghost use Rattle.zonereplay.specs.Answers.{Taken, Told};
+ghost use Rattle.zonereplay.specs.Answers.{Taken, Told, Tries, write_fault};
 ghost use Rattle.zonereplay.specs.Stops.{StopTold};
 
 use crate::stop::Stop;
@@ -8,16 +8,22 @@ use crate::text::push_number;
 use std::alloc::Global;
 use zone_outside::{NoMemory, Sink, Text, write_all};
 
-/// Writes a line to standard error, and answers this status; or, where that fails, 5.
+/// Tells standard error of a failed write, if it takes that, and answers 5.
+pub(crate) fn tell_write_fault<E: Sink>(err: &mut E) -> u8
+    ensures status { result ≡ 5 }
+    ensures told { Tries (record { text = E.taken err.old; faults = E.faults err.old }) (record { text = E.taken err.new; faults = E.faults err.new }) write_fault }
+{
+    let _ = write_all(err, b"write fault\n");
+    5
+}
+
+/// Writes a line to standard error, and answers this status; or, where that fails, tells so and answers 5.
 pub(crate) fn tell<E: Sink>(err: &mut E, status: u8, line: &[u8]) -> u8
     ensures { Told status line.now result (record { text = E.taken err.old; faults = E.faults err.old }) (record { text = E.taken err.new; faults = E.faults err.new }) }
 {
     match write_all(err, line) {
         Ok(()) => status,
-        Err(_) => {
-            let _ = write_all(err, b"write fault\n");
-            5
-        }
+        Err(_) => tell_write_fault(err),
     }
 }
 

@@ -110,6 +110,17 @@ fn prints_decisions(rt: HostRuntime) -> Result<(), Fail> {
     Ok(())
 }
 
+/// Where the clock runs back, `a` is stale at the moment 0 and leaves. A delay is by the rate.
+#[test]
+fn removes_stale_entries_and_delays(rt: HostRuntime) -> Result<(), Fail> {
+    let stale = "1 ok 0.000 0\n2 ok 0.000 0\n3 ok 0.000 0\n";
+    let words = ["one", "1r/s", "0", "32768", "log"];
+    expect(&rt, &words, "60000 a\n0 b\n60000 a\n", (0, stale, ""))?;
+    let delayed = "1 ok 0.000 0\n2 ok 1.000 500\n";
+    let words = ["one", "2r/s", "5", "32768", "log"];
+    expect(&rt, &words, "0 a\n0 a\n", (0, delayed, ""))
+}
+
 #[test]
 fn tells_faults(rt: HostRuntime) -> Result<(), Fail> {
     let one = ["one", "1r/s", "0", "32k", "log"];
@@ -238,23 +249,36 @@ fn meets_failing_devices(rt: HostRuntime) -> Result<(), Fail> {
     Ok(())
 }
 
-/// Where standard error takes nothing, each status with a line becomes 5.
+/// Where standard error refuses these writes, a status with a line becomes 5, and it has taken this.
+fn refuse(
+    rt: &(impl AllocGlobal + Abort),
+    rate: &str,
+    text: MemText<'_>,
+    failing_opens: &[u64],
+    failing: &[u64],
+    want: &str,
+) -> Result<(), Fail> {
+    let mut out = MemSink::of(rt.alloc(), 1, &[]);
+    let mut err = MemSink::of(rt.alloc(), 1000, failing);
+    let words = ["one", rate, "0", "32768", "log"];
+    let status = status_of(rt, &words, text, failing_opens, &mut out, &mut err)?;
+    assert_eq!(rt; (status, out.bytes().len()), (5, 0), "{rate}");
+    assert_eq!(rt; err.bytes(), want.as_bytes(), "{rate}");
+    Ok(())
+}
+
+/// Each status with a line becomes 5 where standard error refuses the line, and `write fault` is told
+/// where it takes that.
 #[test]
 fn meets_a_failing_error_output(rt: HostRuntime) -> Result<(), Fail> {
     let piece = b"0123456789abcdef";
-    let rows = [
-        ("1r/x", MemText::of(b""), [0]),
-        ("1r/s", MemText::of(b"x\n"), [0]),
-        ("1r/s", MemText::of(b""), [1]),
-        ("1r/s", MemText::repeating(b"!", piece, 1_048_576), [0]),
-    ];
-    for (rate, text, opens) in rows {
-        let mut out = MemSink::of(rt.alloc(), 1, &[]);
-        let mut err = MemSink::of(rt.alloc(), 1000, &[1, 2]);
-        let words = ["one", rate, "0", "32768", "log"];
-        let status = status_of(&rt, &words, text, &opens, &mut out, &mut err)?;
-        assert_eq!(rt; status, 5, "{rate}");
-        assert_eq!(rt; (out.bytes().len(), err.bytes().len()), (0, 0), "{rate}");
+    let rows: [(&[u64], &str); 2] = [(&[1, 2], ""), (&[1], "write fault\n")];
+    for (failing, want) in rows {
+        refuse(&rt, "1r/x", MemText::of(b""), &[], failing, want)?;
+        refuse(&rt, "1r/s", MemText::of(b"x\n"), &[], failing, want)?;
+        refuse(&rt, "1r/s", MemText::of(b""), &[1], failing, want)?;
+        let long = MemText::repeating(b"!", piece, 1_048_576);
+        refuse(&rt, "1r/s", long, &[], failing, want)?;
     }
     Ok(())
 }
@@ -275,5 +299,47 @@ fn limits_texts(rt: HostRuntime) -> Result<(), Fail> {
         assert_eq!(rt; (status, out.bytes().len()), (want, 0));
         assert_eq!(rt; err.bytes(), line.as_bytes());
     }
+    Ok(())
+}
+
+/// Runs `one` over a log that is a front and so many copies of a piece, and compares the status, how the
+/// text ends, and what standard error has.
+fn ends(
+    rt: &(impl AllocGlobal + Abort),
+    log: MemText<'_>,
+    want: (u8, &str, &str),
+) -> Result<(), Fail> {
+    let mut out = MemSink::of(rt.alloc(), 1000, &[]);
+    let mut err = MemSink::of(rt.alloc(), 1000, &[]);
+    let words = ["one", "1r/s", "0", "32768", "log"];
+    let status = status_of(rt, &words, log, &[], &mut out, &mut err)?;
+    assert_eq!(rt; status, want.0);
+    assert!(rt; out.bytes().ends_with(want.1.as_bytes()));
+    assert_eq!(rt; err.bytes(), want.2.as_bytes());
+    Ok(())
+}
+
+/// A log of 131,072 lines is read. One of a line more isn't, and where that line has no line feed, this
+/// is its fault.
+#[test]
+fn limits_lines(rt: HostRuntime) -> Result<(), Fail> {
+    let most = MemText::repeating(b"", b"0 a\n", 131_072);
+    ends(&rt, most, (0, "\n131072 busy 1.000\n", ""))?;
+    let more = MemText::repeating(b"", b"0 a\n", 131_073);
+    ends(&rt, more, (3, "", "log 131073 11\n"))?;
+    let unfinished = MemText::repeating(b"0 a", b"\n0 a", 131_072);
+    ends(&rt, unfinished, (3, "", "log 131073 1\n"))
+}
+
+/// A file that is there can't be opened.
+#[test]
+fn meets_a_failing_open(rt: HostRuntime) -> Result<(), Fail> {
+    let mut out = MemSink::of(rt.alloc(), 1000, &[]);
+    let mut err = MemSink::of(rt.alloc(), 1000, &[]);
+    let words = ["one", "1r/s", "0", "32768", "log"];
+    let text = MemText::of(THREE.as_bytes());
+    let status = status_of(&rt, &words, text, &[1], &mut out, &mut err)?;
+    assert_eq!(rt; (status, out.bytes().len()), (4, 0));
+    assert_eq!(rt; err.bytes(), b"read fault\n".as_slice());
     Ok(())
 }
