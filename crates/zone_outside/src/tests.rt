@@ -25,30 +25,41 @@ fn reads_to_the_end(rt: HostRuntime) -> Result<(), Fail> {
     let plain = MemText::of(b"hello");
     let slow = MemText::of(b"hello").with_most(1);
     let copied = MemText::repeating(b"ab", b"xyz", 2).with_most(2);
-    // Read by 2, "he", "ll" and "o" are three reads, and the fourth finds the end.
-    let third = MemText::of(b"hello").with_most(2).with_failing(&[3]);
-    let fourth = MemText::of(b"hello").with_most(2).with_failing(&[4]);
-    let fifth = MemText::of(b"hello").with_most(2).with_failing(&[5]);
-    // Read at once, the second read finds the end.
-    let last = MemText::of(b"hello").with_failing(&[2]);
-    let beyond = MemText::of(b"hello").with_failing(&[3]);
     let nothing = MemText::of(b"");
-    let rows: [(&MemText<'_>, u64, Result<&[u8], ReadAnswer>); 12] = [
+    let rows: [(&MemText<'_>, u64, Result<&[u8], ReadAnswer>); 7] = [
         (&plain, 5, Ok(b"hello")),
         (&plain, 4, Err(ReadAnswer::TooLong)),
         (&plain, u64::MAX, Ok(b"hello")),
         (&slow, 5, Ok(b"hello")),
         (&slow, 4, Err(ReadAnswer::TooLong)),
         (&copied, 8, Ok(b"abxyzxyz")),
-        (&third, 5, Err(ReadAnswer::Fault)),
-        (&fourth, 5, Err(ReadAnswer::Fault)),
-        (&fifth, 5, Ok(b"hello")),
-        (&last, 5, Err(ReadAnswer::Fault)),
-        (&beyond, 5, Ok(b"hello")),
         (&nothing, 0, Ok(b"")),
     ];
     for (text, limit, want) in rows {
         match outcome(rt.alloc(), text, limit)? {
+            Ok(bytes) => assert_eq!(rt; Ok(bytes.as_slice()), want),
+            Err(answer) => assert_eq!(rt; Err(answer), want),
+        }
+    }
+    Ok(())
+}
+
+// Read by 2, "he", "ll" and "o" are three reads, and the fourth finds the end. Read at once, the second
+// finds it.
+#[test]
+fn fails_by_the_number_of_the_read(rt: HostRuntime) -> Result<(), Fail> {
+    let rows: [(usize, &[u64], Result<&[u8], ReadAnswer>); 5] = [
+        (2, &[3], Err(ReadAnswer::Fault)),
+        (2, &[4], Err(ReadAnswer::Fault)),
+        (2, &[5], Ok(b"hello")),
+        (9, &[2], Err(ReadAnswer::Fault)),
+        (9, &[3, 4, 5], Ok(b"hello")),
+    ];
+    for (most, failing, want) in rows {
+        let text = MemText::of(b"hello")
+            .with_most(most.max(1))
+            .with_failing(failing);
+        match outcome(rt.alloc(), &text, 5)? {
             Ok(bytes) => assert_eq!(rt; Ok(bytes.as_slice()), want),
             Err(answer) => assert_eq!(rt; Err(answer), want),
         }
@@ -171,7 +182,7 @@ fn texts_keep_their_bytes(rt: HostRuntime) -> Result<(), Fail> {
 #[test]
 fn decodes_text(rt: HostRuntime) -> Result<(), Fail> {
     let badly = Err(DecodeFault::Badly);
-    let rows: [(&[u8], Result<&[u8], DecodeFault>); 18] = [
+    let rows: [(&[u8], Result<&[u8], DecodeFault>); 16] = [
         (b"", Ok(b"")),
         (b"a/b", Ok(b"a/b")),
         (b"%41", Ok(b"A")),
@@ -180,11 +191,9 @@ fn decodes_text(rt: HostRuntime) -> Result<(), Fail> {
         (b"%2541", Ok(b"%41")),
         (b"%412", Ok(b"A2")),
         (b"!~", Ok(b"!~")),
-        (b"%20", Ok(b" ")),
         (b"%", badly),
         (b"%4", badly),
         (b"a%", badly),
-        (b"a%4", badly),
         (b"%zz", badly),
         (b"%4g", badly),
         (b"%%41", badly),
@@ -202,25 +211,22 @@ fn decodes_text(rt: HostRuntime) -> Result<(), Fail> {
 
 #[test]
 fn reads_numbers(rt: HostRuntime) {
-    let rows: [(&[u8], u64, Option<u64>); 16] = [
+    let rows: [(&[u8], u64, Option<u64>); 13] = [
         (b"0", 0, Some(0)),
         (b"1", 0, None),
         (b"9", 10, Some(9)),
         (b"10", 10, Some(10)),
         (b"11", 10, None),
-        (b"100", 10, None),
         (
             b"18446744073709551615",
             u64::MAX,
             Some(18_446_744_073_709_551_615),
         ),
         (b"18446744073709551616", u64::MAX, None),
-        (b"99999999999999999999", u64::MAX, None),
         (b"", 10, None),
         (b"00", 10, None),
         (b"01", 10, None),
         (b"+1", 10, None),
-        (b"-1", 10, None),
         (b"1a", 10, None),
         (b" 1", 10, None),
     ];
