@@ -1,7 +1,8 @@
 -- In a sound slab whose words are laid out, each used run and each page of a class can come back.
-use Rattle.std.proofs.Common.{ℕ, ◌≡◌, ◌≢◌, ◌+◌, ◌%◌, ◌<◌, true, false, not, List, [], ◌∷◌, refl, arith, inl, inr, sym, ap, ◌∙◌}
+use Rattle.std.proofs.Common.{ℕ, ◌≡◌, ◌≢◌, ◌+◌, ◌%◌, ◌<◌, true, false, not, List, [], ◌∷◌, refl, arith, inl, inr, sym, ap, subst, ◌∙◌}
 use Rattle.std.proofs.lemmas.Bool.{cases_eq, cases_Bool}
 use Rattle.std.proofs.lemmas.Grind.{common_steps}
+use Rattle.slab_model.specs.declared.runs.Run.{Run}
 use Rattle.slab_model.specs.declared.page.PageState.{PageState}
 use Rattle.slab_model.specs.declared.page.PageState.TheVariants.{Free, First, Later, Class}
 use Rattle.slab_model.specs.Geometry.{Kind, small, exact, big, kind_of, pages_of}
@@ -10,8 +11,9 @@ use Rattle.slab_model.specs.Runs.{is_covered}
 use Rattle.slab_model.specs.Slab.{Slab, IsSound, page_at, list_of, is_full, is_free, has_room}
 use Rattle.slab_model.proofs.StateLemmas.{has_room-own}
 use Rattle.slab_pages.specs.Places.{descriptor, prev_at}
-use Rattle.slab_pages.specs.Layout.{IsBusy, CanComeBack}
+use Rattle.slab_pages.specs.Layout.{LaysRuns, IsBusy, CanComeBack}
 use Rattle.slab_pages.specs.SlabLayout.{LaysSlab, LaysPages, class_head, type_of}
+use Rattle.slab_pages.proofs.PagesLemmas.{runs-unique}
 
 -- descriptors begin at multiples of 8, so the low bits of a link are free for the type
 eight : (page : ℕ) → descriptor page % 8 ≡ 0
@@ -79,3 +81,15 @@ page-back words slab page class indexes s l is below = record {
   before = λ q e free. busy words slab q s l (omega (arith, e, below)) free;
   after = λ low free. busy words slab (page + 1) s l low free;
 }
+
+-- what `Pages::put` asks of a used run, whatever list the words are read as
+pub run-asked : (words : List ℕ) (slab : Slab) (page n : ℕ) → IsSound slab → LaysSlab words slab → page_at slab.pages page ≡ First n → (runs : List Run) → LaysRuns (record { bytes = slab.bytes; words = words }) runs → CanComeBack (pages_of slab.bytes) words runs (record { first = page; pages = n })
+run-asked words slab page n s l is runs laid =
+    subst (λ (rs : List Run). CanComeBack (pages_of slab.bytes) words rs (record { first = page; pages = n }))
+    (runs-unique (record { bytes = slab.bytes; words = words }) slab.runs runs l.runs laid) (run-back words slab page n s l is)
+
+-- and of the page of a class
+pub page-asked : (words : List ℕ) (slab : Slab) (page class : ℕ) (indexes : List ℕ) → IsSound slab → LaysSlab words slab → page_at slab.pages page ≡ Class class indexes → page < pages_of slab.bytes → (runs : List Run) → LaysRuns (record { bytes = slab.bytes; words = words }) runs → CanComeBack (pages_of slab.bytes) words runs (record { first = page; pages = 1 })
+page-asked words slab page class indexes s l is below runs laid =
+    subst (λ (rs : List Run). CanComeBack (pages_of slab.bytes) words rs (record { first = page; pages = 1 }))
+    (runs-unique (record { bytes = slab.bytes; words = words }) slab.runs runs l.runs laid) (page-back words slab page class indexes s l is below)
