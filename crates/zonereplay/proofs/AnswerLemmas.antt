@@ -6,8 +6,8 @@ use Rattle.zonereplay.specs.declared.stop.Stop.{Stop}
 use Rattle.zonereplay.specs.declared.stop.Stop.TheVariants.{ReadFault, TooLong, Log, NoMemory}
 use Rattle.zonereplay.specs.Plan.{Plan, Ends, Reaches, log_fault, usage}
 use Rattle.zonereplay.specs.Plan.Plan.{refuses}
-use Rattle.zonereplay.specs.Plan.End.{refused, written}
-use Rattle.zonereplay.specs.Answers.{Taken, Devices, Told, Wrote, TakesNone, FilesCalm, Due, Answers, IsFree, IsComplete, IsCalmBut, Does}
+use Rattle.zonereplay.specs.Plan.End.{refused}
+use Rattle.zonereplay.specs.Answers.{Taken, Devices, Told, TakesNone, FilesCalm, Due, Answers, IsFree, IsComplete, IsCalmBut, Does}
 use Rattle.zonereplay.specs.Answers.Answers.{done, told, out_failed, err_failed, no_memory}
 use Rattle.zonereplay.specs.Stops.{StopsBy, StopTold, IsCalm}
 
@@ -37,12 +37,6 @@ stop_answers plan before after name TooLong answer out reached ends calm tells =
 stop_answers plan before after name (Log line kind) answer out reached ends calm (inl tells) = due_told plan before after 3 (log_fault (record { line = line; kind = kind })) answer out (inl (ends, calm)) tells
 stop_answers plan before after name (Log line kind) answer out reached ends calm (inr (is, none)) = want plan before after answer out calm is none
 stop_answers plan before after name NoMemory answer out reached free calm (is, none) = want plan before after answer out calm is none
-
--- lines are written, or a write of them failed
-lines_answer : (plan : Plan) (before after : Devices) (lines : List (List ℕ)) (answer : ℕ) → Ends before.contents plan (written lines) → FilesCalm before after
-    → Wrote lines answer before.out after.out before.err after.err → Answers plan before after answer
-lines_answer plan before after lines answer ends files (inl (is, out, err)) = done is (record { lines = lines; ends = ends; files = files; out = out; err = err })
-lines_answer plan before after lines answer ends files (inr (is, out, err)) = out_failed is (record { lines = lines; ends = ends; files = files; out = out; err = err })
 
 -- nothing is due where all is free
 none_due : (plan : Plan) (before after : Devices) (status : ℕ) (line : List ℕ) → IsFree plan before after → Due plan before after status line → ⊥
@@ -80,12 +74,6 @@ pub stop_does : (plan : Plan) (before after : Devices) (name : List ℕ) (stop :
     → ((n : List ℕ) → after.contents n ≡ before.contents n) → ((n : List ℕ) → before.faults n ≤ after.faults n) → Reaches before.contents plan name
     → StopsBy before.contents plan (before.faults name) (after.faults name) stop → IsCalm stop (FilesCalm before after) → StopTold stop answer before.err after.err → Does plan before after answer
 stop_does plan before after name stop answer out kept later reached stops calm tells = does plan before after answer kept later (stop_answers plan before after name stop answer out reached stops calm tells)
-
--- a command that writes
-pub lines_do : (plan : Plan) (before after : Devices) (lines : List (List ℕ)) (answer : ℕ)
-    → ((n : List ℕ) → after.contents n ≡ before.contents n) → ((n : List ℕ) → before.faults n ≤ after.faults n)
-    → Ends before.contents plan (written lines) → FilesCalm before after → Wrote lines answer before.out after.out before.err after.err → Does plan before after answer
-lines_do plan before after lines answer kept later ends files wrote = does plan before after answer kept later (lines_answer plan before after lines answer ends files wrote)
 
 -- words of no form
 pub usage_does : (plan : Plan) (before after : Devices) (answer : ℕ) → plan ≡ refuses 1 usage → after.out ≡ before.out

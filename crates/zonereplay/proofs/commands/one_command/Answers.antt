@@ -1,18 +1,9 @@
-use Rattle.std.proofs.Common.{ℕ, List, ◌≡◌, ap, sym, subst, refl, inl}
+use Rattle.std.proofs.Common.{◌≡◌, ap, sym, subst, refl, inl}
 use Rattle.zonereplay.specs.Plan.{Plan, plan_of, plan_for, one_plan}
 use Rattle.zonereplay.specs.Jobs.{asked}
-use Rattle.zonereplay.specs.Answers.{devices, Does, Wrote}
-use Rattle.zonereplay.proofs.AnswerLemmas.{lines_do, stop_does}
+use Rattle.zonereplay.specs.Answers.{devices, Does}
+use Rattle.zonereplay.proofs.AnswerLemmas.{stop_does}
 use Rattle.zonereplay.proofs.commands.one_command.Goals as goal
-
-pub returns-in-Ok : goal.returns-in-Ok
-returns-in-Ok g c =
-    let before = devices (g.F.Shelf.contents c.args.files.now) (g.F.Shelf.faults c.args.files.now) (g.O.Sink.taken c.args.out.now) (g.O.Sink.faults c.args.out.now) (g.E.Sink.taken c.args.err.now) (g.E.Sink.faults c.args.err.now) in
-    let after = devices (g.F.Shelf.contents c.prepare_one.new.files) (g.F.Shelf.faults c.prepare_one.new.files) (g.O.Sink.taken c.finish.new.out) (g.O.Sink.faults c.finish.new.out) (g.E.Sink.taken c.finish.new.err) (g.E.Sink.faults c.finish.new.err) in
-    let plan = one_plan (asked c.in-Some.job c.in-Some.log.now) in
-    let is : plan_of c.args.words.now ≡ plan = ap plan_for c.in-Some.ensures in
-    let wrote = subst (λ (lines : List (List ℕ)). Wrote lines c.finish.result before.out after.out before.err after.err) c.deref.ensures.value c.finish.ensures in
-    subst (λ (p : Plan). Does p before after c.finish.result) (sym is) (lines_do plan before after c.in-Ok.lines.items c.finish.result c.prepare_one.ensures.kept c.prepare_one.ensures.later c.in-Ok.ensures.lines c.in-Ok.ensures.calm wrote)
 
 pub returns-in-Err : goal.returns-in-Err
 returns-in-Err g c =
