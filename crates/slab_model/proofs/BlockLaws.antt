@@ -281,6 +281,7 @@ lies_in_pages slab at s (in_page page class used index is ok there at_is bytes) 
     record {
       low = omega (arith, at_is);
       high = omega (arith, at_is, bytes, end, here);
+      inside = omega (arith, at_is, bytes, end, here, z.last);
       even = omega (arith, at_is, z.eights, even);
       words = omega (arith, bytes, c.eights);
     }
@@ -290,6 +291,7 @@ lies_in_pages slab at s (over_pages page count is at_is bytes) =
     record {
       low = omega (arith, at_is);
       high = omega (arith, at_is, bytes, run.1);
+      inside = omega (arith, at_is, bytes, run.1, z.last);
       even = omega (arith, at_is, z.eights);
       words = omega (arith, bytes);
     }

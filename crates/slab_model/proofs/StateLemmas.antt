@@ -10,6 +10,7 @@ use Rattle.slab_model.specs.declared.page.PageState.TheVariants.{Free, First, La
 use Rattle.slab_model.specs.Geometry.{first_index, usable_blocks, blocks_in_page}
 use Rattle.slab_model.specs.Numbers.{is_member, without}
 use Rattle.slab_model.specs.Slab.{page_at, fill_pages, is_free, is_full, lowest_unused, used_in, has_room, AreUsed}
+use Rattle.slab_model.specs.Laws.{LowestLaw}
 use Rattle.slab_model.proofs.ClassLemmas.{cuts}
 use Rattle.slab_model.proofs.NumberLemmas.{first_unused-low, first_unused-high, first_unused-unused, first_unused-below, is_member-without, IsDistinct-without, length-in_range}
 
@@ -56,6 +57,15 @@ lowest-in class used known full =
 -- a page whose usable index isn't used is not full
 pub not_full : (class index : ℕ) (used : List ℕ) → first_index class ≤ index → index < blocks_in_page class → is_member index used ≡ false → is_full class used ≡ false
 not_full class index used low high unused = let below = first_unused-below (usable_blocks class) (first_index class) index used low in grind (arith, common_steps, below)
+
+pub lowest-law : LowestLaw
+lowest-law class used known = record {
+  lower = λ index low below. first_unused-below (usable_blocks class) (first_index class) index used low below;
+  given = λ part. lowest-in class used known part;
+  full = λ whole index low high. elim (cases_Bool (is_member index used)) [ inl there ↦ there | inr none ↦ absurd (both (not_full class index used low high none) whole) ];
+} where
+  both : is_full class used ≡ false → is_full class used ≡ true → ⊥
+  both f t = cc
 
 -- a page with one block is not full
 pub not_full-one : (class index : ℕ) → class < 9 → is_full class (index ∷ []) ≡ false

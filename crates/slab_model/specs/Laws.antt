@@ -1,7 +1,8 @@
 -- What holds of every sound slab, and of a grant and a return there.
-use Rattle.std.specs.Prelude.{ℕ, ◌≡◌, ◌≢◌, ◌+◌, ◌%◌, ◌<◌, ◌≤◌, ◌⊎◌, Bool, Some, None, is_some, if◌then◌else◌}
-use Rattle.slab_model.specs.Geometry.{least_zone, greatest_zone, start_of, pages_of, page_offset, class_of}
-use Rattle.slab_model.specs.Slab.{Slab, opened, grant, give_back, fits, block_bytes, live_bytes, IsLive, IsSound, free_pages, used_pages, stat_of, one_more}
+use Rattle.std.specs.Prelude.{ℕ, ◌≡◌, ◌≢◌, ◌+◌, ◌%◌, ◌<◌, ◌≤◌, ◌⊎◌, Bool, true, false, List, Some, None, is_some, if◌then◌else◌}
+use Rattle.slab_model.specs.Geometry.{least_zone, greatest_zone, start_of, pages_of, page_offset, class_count, class_of, blocks_in_page, first_index}
+use Rattle.slab_model.specs.Numbers.{is_member}
+use Rattle.slab_model.specs.Slab.{Slab, opened, grant, give_back, fits, block_bytes, live_bytes, IsLive, IsSound, lowest_unused, is_full, free_pages, used_pages, stat_of, one_more}
 
 -- ---- the live blocks
 
@@ -9,10 +10,11 @@ use Rattle.slab_model.specs.Slab.{Slab, opened, grant, give_back, fits, block_by
 abbrev pub AreDisjoint : Slab → Type 0
 AreDisjoint slab = (a b : ℕ) → IsLive slab a → IsLive slab b → a ≢ b → (a + live_bytes slab a ≤ b) ⊎ (b + live_bytes slab b ≤ a)
 
--- a live block lies within the pages, at a multiple of 8
+-- a live block lies within the pages, and so within the zone, at a multiple of 8
 pub record LiesInPages (slab : Slab) (at : ℕ) : Type 0 where
   pub low : start_of slab.bytes ≤ at
   pub high : at + live_bytes slab at ≤ page_offset slab.bytes (pages_of slab.bytes)
+  pub inside : at + live_bytes slab at ≤ slab.bytes
   pub even : at % 8 ≡ 0
   pub words : live_bytes slab at % 8 ≡ 0
 
@@ -37,6 +39,12 @@ pub record CountsRequest (old new : Slab) (class : ℕ) (given : Bool) : Type 0 
   pub reqs : (stat_of new class).reqs ≡ one_more (stat_of old class).reqs
   pub fails : (stat_of new class).fails ≡ (if given then (stat_of old class).fails else one_more (stat_of old class).fails)
   pub others : (other : ℕ) → other ≢ class → stat_of new other ≡ stat_of old other
+
+-- a page that isn't full gives the lowest index that no block uses; a full one has none, and has a block at each
+pub record GivesLowest (class : ℕ) (used : List ℕ) : Type 0 where
+  pub lower : (index : ℕ) → first_index class ≤ index → index < lowest_unused class used → is_member index used ≡ true
+  pub given : is_full class used ≡ false → (first_index class ≤ lowest_unused class used) × (lowest_unused class used < blocks_in_page class) × (is_member (lowest_unused class used) used ≡ false)
+  pub full : is_full class used ≡ true → (index : ℕ) → first_index class ≤ index → index < blocks_in_page class → is_member index used ≡ true
 
 -- ---- the laws
 
@@ -67,6 +75,10 @@ ReturnLaw = (slab : Slab) (at : ℕ) → IsSound slab → IsLive slab at → Ret
 -- live blocks share no byte, and lie within the pages
 abbrev pub BlocksLaw : Type 0
 BlocksLaw = (slab : Slab) → IsSound slab → AreDisjoint slab × ((at : ℕ) → IsLive slab at → LiesInPages slab at)
+
+-- a page gives the lowest unused index, until it is full
+abbrev pub LowestLaw : Type 0
+LowestLaw = (class : ℕ) (used : List ℕ) → class < class_count → GivesLowest class used
 
 -- free and used pages are all pages
 abbrev pub PagesLaw : Type 0

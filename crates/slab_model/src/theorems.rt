@@ -1,4 +1,4 @@
-ghost use Rattle.slab_model.specs.Laws.{OpenedLaw, GrantSoundLaw, ReturnSoundLaw, GrantLaw, NoGrantLaw, ReturnLaw, BlocksLaw, PagesLaw, RoundTripLaw, FitsLaw, RequestsLaw, ReturnCountsLaw};
+ghost use Rattle.slab_model.specs.Laws.{OpenedLaw, GrantSoundLaw, ReturnSoundLaw, GrantLaw, NoGrantLaw, ReturnLaw, BlocksLaw, LowestLaw, PagesLaw, RoundTripLaw, FitsLaw, RequestsLaw, ReturnCountsLaw};
 ghost use Rattle.slab_model.specs.Rows.{ZonesRow, NodesRow, SmallRow, LargeRow, RunsRow, MergeRow};
 
 /// What holds of every slab, as theorems over the definitions. Nothing runs.
@@ -10,6 +10,7 @@ pub fn laws()
     ensures no_grant { NoGrantLaw }
     ensures returns { ReturnLaw }
     ensures blocks { BlocksLaw }
+    ensures lowest { LowestLaw }
     ensures pages { PagesLaw }
     ensures round_trip { RoundTripLaw }
     ensures fits { FitsLaw }

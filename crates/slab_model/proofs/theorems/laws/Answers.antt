@@ -1,5 +1,6 @@
 use Rattle.slab_model.proofs.Laws.{grant-sound, give_back-sound, fits-grant}
 use Rattle.slab_model.proofs.BlockLaws.{opened-law, grant-grants, grant-none, give_back-returns, blocks-law}
+use Rattle.slab_model.proofs.StateLemmas.{lowest-law}
 use Rattle.slab_model.proofs.CountLaws.{pages-law, round_trip-law}
 use Rattle.slab_model.proofs.RequestLaws.{requests-law, return_counts-law}
 use Rattle.slab_model.proofs.theorems.laws.Goals as goal
@@ -13,6 +14,7 @@ returns c = record {
   no_grant = grant-none;
   returns = give_back-returns;
   blocks = blocks-law;
+  lowest = lowest-law;
   pages = pages-law;
   round_trip = round_trip-law;
   fits = fits-grant;
