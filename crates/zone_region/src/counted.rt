@@ -12,6 +12,7 @@ use std::sync::ledger::Ledger;
 /// `word` takes `&self`, so the count stands in an atomic word. Contracts say nothing of it.
 #[derive(Drop)]
 pub struct CountedBlocks {
+    /// The blocks that are read and written.
     pub blocks: MemBlocks,
     reads: AtomicU64,
 }

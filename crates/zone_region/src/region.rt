@@ -21,7 +21,7 @@ impl Model for Region {
 }
 
 impl Region {
-    /// A region of so many words, all 0.
+    /// A region of so many words, all 0. It fails only where there is no memory for them.
     pub fn zeroed(alloc: Global, words: u64) -> Result<Region, NoMemory>
         ensures { IfOk result (λ region. region ≡ replicate words 0) }
     {

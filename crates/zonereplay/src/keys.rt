@@ -19,7 +19,9 @@ const MOST_KEY: usize = 48;
 /// A line of a log of keys: a moment in ms and a key.
 #[derive(Debug, Drop)]
 pub struct KeyLine {
+    /// When the key is checked, in ms, below 2^42.
     pub moment: u64,
+    /// The decoded key, of 1 to 48 bytes.
     pub key: Key,
 }
 

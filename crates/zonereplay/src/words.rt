@@ -6,7 +6,8 @@ ghost use Rattle.zonereplay.specs.Jobs.{asked};
 use crate::job::Job;
 use zone_outside::{Text, read_number};
 
-/// A rate `Nr/s` or `Nr/m` with N from 1 to 1,000,000, in thousandths of a request per second.
+/// A rate `Nr/s` or `Nr/m` with N from 1 to 1,000,000, in thousandths of a request per second. None for any
+/// other word.
 pub fn read_rate(word: &[u8]) -> Option<u64>
     ensures value { result ≡ rate_of word.now }
     ensures limits { IfSome result IsRate }
@@ -20,7 +21,7 @@ pub fn read_rate(word: &[u8]) -> Option<u64>
     }
 }
 
-/// A burst of 0 to 1,000,000 requests, in thousandths of a request.
+/// A burst of 0 to 1,000,000 requests, in thousandths of a request. None for any other word.
 pub fn read_burst(word: &[u8]) -> Option<u64>
     ensures value { result ≡ burst_of word.now }
     ensures limits { IfSome result (λ burst. burst ≤ greatest_burst) }
@@ -41,7 +42,7 @@ fn unit_bytes(letter: u8) -> u64
 }
 
 /// The size of a zone: a number of bytes, or of 1024 or 1,048,576 bytes by a last letter `k`, `K`, `m` or
-/// `M`, from 32,768 to 67,108,864 bytes.
+/// `M`, from 32,768 to 67,108,864 bytes. None for any other word.
 pub fn read_size(word: &[u8]) -> Option<u64>
     ensures value { result ≡ size_of word.now }
     ensures limits { IfSome result (λ bytes. (32768 ≤ bytes) × (bytes ≤ 67108864)) }
