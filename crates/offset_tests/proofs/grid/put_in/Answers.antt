@@ -1,4 +1,4 @@
-use Rattle.std.proofs.Common.{ℕ, ◌*◌, length, arith}
+use Rattle.std.proofs.Common.{arith}
 use Rattle.offset_tests.proofs.GridLemmas.{can_insert_at, tree_with_at, search_bound}
 use Rattle.offset_tests.proofs.grid.put_in.Goals as goal
 
