@@ -1,5 +1,5 @@
 use Rattle.std.proofs.Common.{arith}
-use Rattle.slab_model.specs.Parts.{slab_of}
+use Rattle.slab_model.specs.Inside.{slab_of}
 use Rattle.slab_model.proofs.Bounds.{offsets}
 use Rattle.slab_model.proofs.grants.block_at.Goals as goal
 

@@ -1,9 +1,10 @@
 use Rattle.std.proofs.Common.{◌≡◌, drop, sym, ap, ◌∙◌, subst, arith}
 use Rattle.std.proofs.lemmas.Grind.{common_steps}
-use Rattle.slab_model.specs.Parts.{slab_of}
+use Rattle.slab_model.specs.Inside.{slab_of}
 use Rattle.slab_model.specs.declared.page.PageState.{PageState}
-use Rattle.slab_model.specs.Pages.{IsOfClass}
-use Rattle.slab_model.specs.Slab.{list_of, page_at, used_in, lowest_unused}
+use Rattle.slab_model.specs.Inside.{IsOfClass}
+use Rattle.slab_model.specs.State.{list_of, page_at}
+use Rattle.slab_model.specs.Blocks.{used_in, lowest_unused}
 use Rattle.slab_model.proofs.Bounds.{listed, small_stat}
 use Rattle.slab_model.proofs.grants.grant_in_page.Goals as goal
 
@@ -21,7 +22,7 @@ block_at-block-requires-clause-page c = let l = listed (slab_of c.args.parts.now
 pub block_at-block-requires-clause-index : goal.block_at-block-requires-clause-index
 block_at-block-requires-clause-index c = let l = listed (slab_of c.args.parts.now) c.args.class c.args.page (drop 1 (list_of (slab_of c.args.parts.now) c.args.class)) c.requires.sound c.requires.class c.requires.listed in
     let is : c.index.result.now ≡ page_at c.args.parts.now.pages.items c.args.page = c.index.ensures ∙ l.same c.index.result.now in
-    let e : c.lowest_unused-index.result ≡ lowest_unused c.args.class (used_in (page_at c.args.parts.now.pages.items c.args.page)) = c.lowest_unused-index.ensures ∙ ap (λ u. lowest_unused c.args.class u) (c.indexes-used.ensures ∙ ap (λ t. used_in t) is) in
+    let e : c.lowest_unused-index.result ≡ lowest_unused shape c.args.class (used_in (page_at c.args.parts.now.pages.items c.args.page)) = c.lowest_unused-index.ensures ∙ ap (λ u. lowest_unused shape c.args.class u) (c.indexes-used.ensures ∙ ap (λ t. used_in t) is) in
     omega (arith, e, l.index)
 
 pub index_mut-requires-2 : goal.index_mut-requires-2

@@ -1,5 +1,6 @@
 use Rattle.std.proofs.Common.{sym, subst}
-use Rattle.slab_model.specs.Slab.{Slab, IsSound}
+use Rattle.slab_model.specs.State.{Slab}
+use Rattle.slab_model.specs.Soundness.{IsSound}
 use Rattle.slab_model.proofs.SoundLemmas.{IsSound-opened}
 use Rattle.slab_model.proofs.plain.PlainSlab.open.Goals as goal
 
