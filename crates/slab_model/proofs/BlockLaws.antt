@@ -1,5 +1,5 @@
 -- Which live blocks a grant and a return change, and where live blocks lie.
-use Rattle.std.proofs.Common.{ℕ, ◌≡◌, ◌≢◌, ◌⊎◌, ◌+◌, ◌*◌, ◌/◌, ◌%◌, ◌<◌, ◌≤◌, true, false, List, [], ◌∷◌, Option, Some, None, length, set, replicate, sym, ap, subst, ◌∙◌, refl, arith, inl, inr, mul_assoc, get_or-set_same, get_or-set_other}
+use Rattle.std.proofs.Common.{ℕ, ◌≡◌, ◌≢◌, ◌⊎◌, ◌+◌, ◌*◌, ◌/◌, ◌%◌, ◌<◌, ◌≤◌, ◌||◌, eqb, true, false, List, [], ◌∷◌, Option, Some, None, length, set, replicate, sym, ap, subst, ◌∙◌, refl, arith, inl, inr, mul_assoc, get_or-set_same, get_or-set_other}
 use Rattle.std.proofs.Math.Nat.{mul-le-mul_left}
 use Rattle.std.proofs.lemmas.List.{length-replicate, get_or-replicate, get_or_past}
 use Rattle.std.proofs.lemmas.Bool.{cases_eq, cases_lt, cases_order}
@@ -8,7 +8,7 @@ use Rattle.slab_model.specs.declared.shape.Shape.{Shape}
 use Rattle.slab_model.specs.declared.page.PageState.{PageState}
 use Rattle.slab_model.specs.declared.page.PageState.TheVariants.{Free, First, Class}
 use Rattle.slab_model.specs.Geometry.{start_of, pages_of, page_offset, block_offset, class_size, class_of, pages_for, blocks_in_page, first_index}
-use Rattle.slab_model.specs.Numbers.{is_member, without}
+use Rattle.slab_model.specs.Numbers.{is_member, with_number, without}
 use Rattle.slab_model.specs.Runs.{first_fit}
 use Rattle.slab_model.specs.State.{Slab, page_at, list_of, fresh_slab, fill_pages}
 use Rattle.slab_model.specs.Blocks.{live_bytes, live_in_page, page_number, place_in_page, lowest_unused, used_in}
@@ -17,23 +17,23 @@ use Rattle.slab_model.specs.Return.{give_back, give_in_page, give_pages}
 use Rattle.slab_model.specs.Soundness.{AreUsed, IsSound}
 use Rattle.slab_model.specs.Laws.{AreDisjoint, LiesInPages, Grants, Returns, SameBlocks, FreshLaw, GrantLaw, NoGrantLaw, ReturnLaw, BlocksLaw}
 use Rattle.slab_model.proofs.ClassLemmas.{cuts, zone, class_of-some, pages_for-holds}
-use Rattle.slab_model.proofs.NumberLemmas.{is_member-without}
+use Rattle.slab_model.proofs.NumberLemmas.{member, is_member-with, is_member-without}
 use Rattle.slab_model.proofs.RunLemmas.{first_fit-in}
 use Rattle.slab_model.proofs.PageLemmas.{Place, place_of, page_at-fill_in, page_at-fill_out, page_at-use_out, page_at-use_first, page_at-use_later}
 use Rattle.slab_model.proofs.PageLemmas.Place.{out, within}
-use Rattle.slab_model.proofs.StateLemmas.{page_at-in, lowest-in}
+use Rattle.slab_model.proofs.StateLemmas.{page_at-in, lowest-in, used-usable}
 use Rattle.slab_model.proofs.SoundLemmas.{IsSound-fresh, listed-is, fit_free, class_page-in}
 use Rattle.slab_model.proofs.BlockLemmas.{offset_is, live_bytes-low, live_bytes-in, live_bytes-at, live_of, live_not, live_more, live_less, live_none, block_end, Lies, lies}
 use Rattle.slab_model.proofs.BlockLemmas.Lies.{in_page, over_pages}
 use Rattle.slab_model.proofs.Laws.{give_back-class, give_back-run}
 
 -- two slabs over the same zone have the same block at an offset where their pages agree on it
-live_same : (old new : Slab) (at : ℕ) → new.shape ≡ old.shape → (start_of old.shape ≤ at → live_in_page shape (page_at new.pages (page_number old.shape at)) (place_in_page old.shape at) ≡ live_in_page shape (page_at old.pages (page_number old.shape at)) (place_in_page old.shape at)) → live_bytes new at ≡ live_bytes old at
+live_same : (old new : Slab) (at : ℕ) → new.shape ≡ old.shape → (start_of old.shape ≤ at → live_in_page old.shape (page_at new.pages (page_number old.shape at)) (place_in_page old.shape at) ≡ live_in_page old.shape (page_at old.pages (page_number old.shape at)) (place_in_page old.shape at)) → live_bytes new at ≡ live_bytes old at
 live_same old new at bytes same = elim (cases_lt at (start_of old.shape)) [
-  | inl low ↦ live_bytes-low new at (subst (λ (b : ℕ). at < start_of b) (sym bytes) low) ∙ sym (live_bytes-low old at low)
+  | inl low ↦ live_bytes-low new at (subst (λ (b : Shape). at < start_of b) (sym bytes) low) ∙ sym (live_bytes-low old at low)
   | inr behind ↦
-      live_bytes-in new at (subst (λ (b : ℕ). start_of b ≤ at) (sym bytes) behind)
-      ∙ ap (λ b. live_in_page shape (page_at new.pages (page_number b at)) (place_in_page b at)) bytes
+      live_bytes-in new at (subst (λ (b : Shape). start_of b ≤ at) (sym bytes) behind)
+      ∙ ap (λ b. live_in_page b (page_at new.pages (page_number b at)) (place_in_page b at)) bytes
       ∙ same behind
       ∙ sym (live_bytes-in old at behind)
 ]
@@ -57,29 +57,29 @@ place_low : (shape : Shape) (class index : ℕ) → class < 9 → index < blocks
 place_low shape class index known low = let c = cuts shape class known in let end = block_end (class_size class) index (blocks_in_page shape class) c.whole low in omega (arith, c.some)
 
 -- a page of a class, or a free page, has a block more
-Grants-page : (slab new : Slab) (class page index size : ℕ) (used : List ℕ) → class < 9 → new.shape ≡ slab.shape → new.pages ≡ set slab.pages page (Class class (index ∷ used)) → page < length slab.pages → index < blocks_in_page slab.shape class → is_member index used ≡ false → ((place : ℕ) → live_in_page slab.shape (page_at slab.pages page) place ≡ live_in_page slab.shape (Class class used) place) → block_bytes size ≡ class_size class → Grants slab new size (block_offset slab.shape page class index)
-Grants-page slab new class page index size used known bytes pages here low unused before size_is =
+Grants-page : (slab new : Slab) (class page index size : ℕ) (used now : List ℕ) → class < 9 → new.shape ≡ slab.shape → new.pages ≡ set slab.pages page (Class class now) → now ≡ with_number index used → page < length slab.pages → index < blocks_in_page slab.shape class → is_member index used ≡ false → ((place : ℕ) → live_in_page slab.shape (page_at slab.pages page) place ≡ live_in_page slab.shape (Class class used) place) → block_bytes slab size ≡ class_size class → Grants slab new size (block_offset slab.shape page class index)
+Grants-page slab new class page index size used now known shape_is pages now_is here low unused before size_is =
     let c = cuts slab.shape class known in
     let place = place_low slab.shape class index known low in
     record {
       fresh = live_bytes-at slab page (class_size class * index) place ∙ before (class_size class * index) ∙ live_not slab.shape class used index c.some unused;
       bytes = live_now place c.some ∙ sym size_is;
-      others = λ other ne. live_page slab new page (Class class (index ∷ used)) other bytes pages here (λ q is. live_more slab.shape class index used q c.some (λ e. ne (is ∙ ap (λ k. page_offset slab.shape page + k) e)) ∙ sym (before q));
+      others = λ other ne. live_page slab new page (Class class now) other shape_is pages here (λ q is. ap (λ l. live_in_page slab.shape (Class class l) q) now_is ∙ live_more slab.shape class index used q c.some (λ e. ne (is ∙ ap (λ k. page_offset slab.shape page + k) e)) ∙ sym (before q));
     }
   where
     live_now : class_size class * index < 4096 → 0 < class_size class → live_bytes new (block_offset slab.shape page class index) ≡ class_size class
     live_now place some =
-        ap (λ b. live_bytes new (block_offset b page class index)) (sym bytes)
+        ap (λ b. live_bytes new (block_offset b page class index)) (sym shape_is)
         ∙ live_bytes-at new page (class_size class * index) place
-        ∙ ap (λ ps. live_in_page slab.shape (page_at ps page) (class_size class * index)) pages
-        ∙ ap (λ t. live_in_page slab.shape t (class_size class * index)) (get_or-set_same slab.pages page (Class class (index ∷ used)) Free here)
-        ∙ live_of slab.shape class (index ∷ used) index some (head index used)
+        ∙ ap (λ ps. live_in_page new.shape (page_at ps page) (class_size class * index)) pages
+        ∙ ap (λ t. live_in_page new.shape t (class_size class * index)) (get_or-set_same slab.pages page (Class class now) Free here)
+        ∙ live_of new.shape class now index some (ap (is_member index) now_is ∙ own (is_member-with index index used))
       where
-        head : (index : ℕ) (used : List ℕ) → is_member index (index ∷ used) ≡ true
-        head index used = grind (arith, common_steps)
+        own : is_member index (with_number index used) ≡ (eqb index index || is_member index used) → is_member index (with_number index used) ≡ true
+        own mem = grind (arith, common_steps, mem)
 
 -- free pages become a used run
-Grants-run : (slab : Slab) (count page size : ℕ) → IsSound slab → 0 < count → first_fit count slab.runs ≡ Some page → block_bytes size ≡ 4096 * count → Grants slab (grant_run slab count (Some page)).1 size (page_offset slab.shape page)
+Grants-run : (slab : Slab) (count page size : ℕ) → IsSound slab → 0 < count → first_fit count slab.runs ≡ Some page → block_bytes slab size ≡ 4096 * count → Grants slab (grant_run slab count (Some page)).1 size (page_offset slab.shape page)
 Grants-run slab count page size s some fit size_is =
     let free_first = fit_free slab count page page s fit (omega arith) (omega arith) in
     let w = first_fit-in (pages_of slab.shape) count slab.runs page s.runs fit in
@@ -119,7 +119,7 @@ Grants-run slab count page size s some fit size_is =
 
 -- ---- grant
 
-grant_from_list-grants : (slab : Slab) (class size at : ℕ) → IsSound slab → class < 9 → block_bytes size ≡ class_size class → (listed : List ℕ) → list_of slab class ≡ listed → (grant_from_list slab class listed).0 ≡ Some at → Grants slab (grant_from_list slab class listed).1 size at
+grant_from_list-grants : (slab : Slab) (class size at : ℕ) → IsSound slab → class < 9 → block_bytes slab size ≡ class_size class → (listed : List ℕ) → list_of slab class ≡ listed → (grant_from_list slab class listed).0 ≡ Some at → Grants slab (grant_from_list slab class listed).1 size at
 grant_from_list-grants slab class size at s known size_is (page ∷ rest) is given =
     let used = used_in (page_at slab.pages page) in
     let l = listed-is slab class page rest s known is in
@@ -127,7 +127,7 @@ grant_from_list-grants slab class size at s known size_is (page ∷ rest) is giv
     let here = class_page-in slab class page used s l.0 in
     let at_is : block_offset slab.shape page class (lowest_unused slab.shape class used) ≡ at = cc in
     subst (λ (a : ℕ). Grants slab (grant_in_page slab class page rest used).1 size a) at_is
-    (Grants-page slab (grant_in_page slab class page rest used).1 class page (lowest_unused slab.shape class used) size used known refl refl (omega (arith, here, s.page_count)) low.1 low.2 (λ place. ap (λ t. live_in_page slab.shape t place) l.0) size_is)
+    (Grants-page slab (grant_in_page slab class page rest used).1 class page (lowest_unused slab.shape class used) size used (with_number (lowest_unused slab.shape class used) used) known refl refl refl (omega (arith, here, s.page_count)) low.1 low.2 (λ place. ap (λ t. live_in_page slab.shape t place) l.0) size_is)
 grant_from_list-grants slab class size at s known size_is [] is given = new_page (first_fit 1 slab.runs) refl given where
   new_page : (fit : Option ℕ) → first_fit 1 slab.runs ≡ fit → (grant_in_new_page slab class fit).0 ≡ Some at → Grants slab (grant_in_new_page slab class fit).1 size at
   new_page None fit given = absurd (cc)
@@ -137,29 +137,29 @@ grant_from_list-grants slab class size at s known size_is [] is given = new_page
       let c = cuts slab.shape class known in
       let at_is : block_offset slab.shape page class (first_index slab.shape class) ≡ at = cc in
       subst (λ (a : ℕ). Grants slab (grant_in_new_page slab class (Some page)).1 size a) at_is
-      (Grants-page slab (grant_in_new_page slab class (Some page)).1 class page (first_index slab.shape class) size [] known refl refl (omega (arith, w, s.page_count)) (omega (arith, c.sum, c.two)) refl (λ place. ap (λ t. live_in_page slab.shape t place) free ∙ sym (live_none slab.shape class place)) size_is)
+      (Grants-page slab (grant_in_new_page slab class (Some page)).1 class page (first_index slab.shape class) size [] (first_index slab.shape class ∷ []) known refl refl refl (omega (arith, w, s.page_count)) (omega (arith, c.sum, c.two)) refl (λ place. ap (λ t. live_in_page slab.shape t place) free ∙ sym (live_none slab.shape class place)) size_is)
 
-grant_run-grants : (slab : Slab) (count size at : ℕ) → IsSound slab → 0 < count → block_bytes size ≡ 4096 * count → (fit : Option ℕ) → first_fit count slab.runs ≡ fit → (grant_run slab count fit).0 ≡ Some at → Grants slab (grant_run slab count fit).1 size at
+grant_run-grants : (slab : Slab) (count size at : ℕ) → IsSound slab → 0 < count → block_bytes slab size ≡ 4096 * count → (fit : Option ℕ) → first_fit count slab.runs ≡ fit → (grant_run slab count fit).0 ≡ Some at → Grants slab (grant_run slab count fit).1 size at
 grant_run-grants slab count size at s some size_is None fit given = absurd (cc)
 grant_run-grants slab count size at s some size_is (Some page) fit given =
     let at_is : page_offset slab.shape page ≡ at = cc in
     subst (λ (a : ℕ). Grants slab (grant_run slab count (Some page)).1 size a) at_is (Grants-run slab count page size s some fit size_is)
 
-block_bytes-is : (size : ℕ) (class : Option ℕ) → class_of shape size ≡ class → block_bytes size ≡ block_bytes_as size class
+block_bytes-is : (slab : Slab) (size : ℕ) (class : Option ℕ) → class_of slab.shape size ≡ class → block_bytes slab size ≡ block_bytes_as slab size class
 unfolding block_bytes
-block_bytes-is size class is = ap (block_bytes_as size) is
+block_bytes-is slab size class is = ap (block_bytes_as slab size) is
 
-grant_as-grants : (slab : Slab) (size at : ℕ) → IsSound slab → 0 < size → (class : Option ℕ) → class_of slab.shape size ≡ class → (grant_as slab size class).0 ≡ Some at → Grants slab (grant_as slab size class).1 size at × (size ≤ block_bytes size)
+grant_as-grants : (slab : Slab) (size at : ℕ) → IsSound slab → 0 < size → (class : Option ℕ) → class_of slab.shape size ≡ class → (grant_as slab size class).0 ≡ Some at → Grants slab (grant_as slab size class).1 size at × (size ≤ block_bytes slab size)
 grant_as-grants slab size at s some None is given =
     let holds = pages_for-holds slab.shape size some in
-    (grant_run-grants slab (pages_for slab.shape size) size at s holds.0 (block_bytes-is size None is) (first_fit (pages_for slab.shape size) slab.runs) refl given, omega (arith, holds.1, block_bytes-is size None is))
+    (grant_run-grants slab (pages_for slab.shape size) size at s holds.0 (block_bytes-is slab size None is) (first_fit (pages_for slab.shape size) slab.runs) refl given, omega (arith, holds.1, block_bytes-is slab size None is))
 grant_as-grants slab size at s some (Some class) is given =
     let known = class_of-some slab.shape size class is in
-    (grant_from_list-grants slab class size at s known.0 (block_bytes-is size (Some class) is) (list_of slab class) refl given, omega (arith, known.1, block_bytes-is size (Some class) is))
+    (grant_from_list-grants slab class size at s known.0 (block_bytes-is slab size (Some class) is) (list_of slab class) refl given, omega (arith, known.1, block_bytes-is slab size (Some class) is))
 
 pub grant-grants : GrantLaw
 unfolding grant
-grant-grants slab size at s some given = grant_as-grants slab size at s some (class_of shape size) refl given
+grant-grants slab size at s some given = grant_as-grants slab size at s some (class_of slab.shape size) refl given
 
 -- a grant that gives no block
 none_from_list : (slab : Slab) (class : ℕ) (listed : List ℕ) → (grant_from_list slab class listed).0 ≡ None → SameBlocks slab (grant_from_list slab class listed).1
@@ -179,7 +179,7 @@ none_as slab size (Some class) none = none_from_list slab class (list_of slab cl
 
 pub grant-none : NoGrantLaw
 unfolding grant
-grant-none slab size none = none_as slab size (class_of shape size) none
+grant-none slab size none = none_as slab size (class_of slab.shape size) none
 
 -- a fresh pool has no live block
 pub fresh-law : FreshLaw
@@ -256,9 +256,9 @@ Returns-run slab page count s is =
 
 give_in_page-returns : (slab : Slab) (class page index : ℕ) (used left : List ℕ) → IsSound slab → AreUsed slab.shape class used → is_member index used ≡ true → page_at slab.pages page ≡ Class class used → without index used ≡ left → Returns slab (give_in_page slab page class used left) (block_offset slab.shape page class index)
 give_in_page-returns slab class page index used [] s ok there is now =
-    Returns-page slab (give_in_page slab page class used []) class page index used Free ok.known refl refl (page_at-in slab.pages page (λ e. cc)) (ok.usable index there).1 is (λ place. sym (ap (λ l. live_in_page slab.shape (Class class l) place) now ∙ live_none slab.shape class place))
+    Returns-page slab (give_in_page slab page class used []) class page index used Free ok.known refl refl (page_at-in slab.pages page (λ e. cc)) (used-usable slab.shape class index used ok ((member index used).0 there)).1 is (λ place. sym (ap (λ l. live_in_page slab.shape (Class class l) place) now ∙ live_none slab.shape class place))
 give_in_page-returns slab class page index used (l ∷ ls) s ok there is now =
-    Returns-page slab (give_in_page slab page class used (l ∷ ls)) class page index used (Class class (l ∷ ls)) ok.known refl refl (page_at-in slab.pages page (λ e. cc)) (ok.usable index there).1 is (λ place. sym (ap (λ k. live_in_page slab.shape (Class class k) place) now))
+    Returns-page slab (give_in_page slab page class used (l ∷ ls)) class page index used (Class class (l ∷ ls)) ok.known refl refl (page_at-in slab.pages page (λ e. cc)) (used-usable slab.shape class index used ok ((member index used).0 there)).1 is (λ place. sym (ap (λ k. live_in_page slab.shape (Class class k) place) now))
 
 returns_at : (slab : Slab) (at : ℕ) → IsSound slab → Lies slab at → Returns slab (give_back slab at) at
 returns_at slab at s (in_page page class used index is ok there at_is bytes) =
@@ -280,7 +280,7 @@ lies_in_pages : (slab : Slab) (at : ℕ) → IsSound slab → Lies slab at → L
 lies_in_pages slab at s (in_page page class used index is ok there at_is bytes) =
     let c = cuts slab.shape class ok.known in
     let z = zone slab.shape s.limits in
-    let end = block_end (class_size class) index (blocks_in_page slab.shape class) c.whole (ok.usable index there).1 in
+    let end = block_end (class_size class) index (blocks_in_page slab.shape class) c.whole (used-usable slab.shape class index used ok ((member index used).0 there)).1 in
     let here = class_page-in slab class page used s is in
     let even = eights_of (class_size class) index c.eights in
     record {
@@ -313,8 +313,8 @@ ends_before : (slab : Slab) (a b : ℕ) → IsSound slab → a < b → Lies slab
 ends_before slab a b s less (in_page page class used i is ok there a_is a_bytes) (in_page other own indexes j o_is o_ok o_there b_is b_bytes) =
     let c = cuts slab.shape class ok.known in
     let d = cuts slab.shape own o_ok.known in
-    let end = block_end (class_size class) i (blocks_in_page slab.shape class) c.whole (ok.usable i there).1 in
-    let o_end = block_end (class_size own) j (blocks_in_page slab.shape own) d.whole (o_ok.usable j o_there).1 in
+    let end = block_end (class_size class) i (blocks_in_page slab.shape class) c.whole (used-usable slab.shape class i used ok ((member i used).0 there)).1 in
+    let o_end = block_end (class_size own) j (blocks_in_page slab.shape own) d.whole (used-usable slab.shape own j indexes o_ok ((member j indexes).0 o_there)).1 in
     elim (cases_order page other) [
       | inl e ↦
           let states : Class class used ≡ Class own indexes = sym is ∙ ap (λ k. page_at slab.pages k) e ∙ o_is in
@@ -330,7 +330,7 @@ ends_before slab a b s less (in_page page class used i is ok there a_is a_bytes)
     ]
 ends_before slab a b s less (in_page page class used i is ok there a_is a_bytes) (over_pages other count o_is b_is b_bytes) =
     let c = cuts slab.shape class ok.known in
-    let end = block_end (class_size class) i (blocks_in_page slab.shape class) c.whole (ok.usable i there).1 in
+    let end = block_end (class_size class) i (blocks_in_page slab.shape class) c.whole (used-usable slab.shape class i used ok ((member i used).0 there)).1 in
     elim (cases_order page other) [
       | inl e ↦ let states : Class class used ≡ First count = sym is ∙ ap (λ k. page_at slab.pages k) e ∙ o_is in absurd (cc)
       | inr ne ↦ elim ne [
@@ -340,7 +340,7 @@ ends_before slab a b s less (in_page page class used i is ok there a_is a_bytes)
     ]
 ends_before slab a b s less (over_pages page count is a_is a_bytes) (in_page other own indexes j o_is o_ok o_there b_is b_bytes) =
     let d = cuts slab.shape own o_ok.known in
-    let o_end = block_end (class_size own) j (blocks_in_page slab.shape own) d.whole (o_ok.usable j o_there).1 in
+    let o_end = block_end (class_size own) j (blocks_in_page slab.shape own) d.whole (used-usable slab.shape own j indexes o_ok ((member j indexes).0 o_there)).1 in
     let run = s.used_runs.followed page count is in
     elim (cases_lt other (page + count)) [
       | inl low ↦ elim (cases_order page other) [

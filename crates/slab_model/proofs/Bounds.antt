@@ -11,7 +11,7 @@ use Rattle.slab_model.specs.declared.shape.Shape.{Shape}
 use Rattle.slab_model.specs.declared.page.PageState.{PageState}
 use Rattle.slab_model.specs.declared.page.PageState.TheVariants.{Free, First, Later, Class}
 use Rattle.slab_model.specs.Geometry.{start_of, pages_of, class_size, usable_blocks}
-use Rattle.slab_model.specs.Numbers.{without}
+use Rattle.slab_model.specs.Numbers.{with_number, without}
 use Rattle.slab_model.specs.Inside.{IsOfClass, IsSmallPage}
 use Rattle.slab_model.specs.Runs.{AreSound, first_fit}
 use Rattle.slab_model.specs.State.{Slab, page_at, list_of, stat_of}
@@ -20,7 +20,7 @@ use Rattle.slab_model.specs.Return.{give_back, give_from, give_pages, give_in_pa
 use Rattle.slab_model.specs.Soundness.{IsSound, AreUsed, usable_in_class, used_in_class}
 use Rattle.slab_model.proofs.ClassLemmas.{cuts, zone}
 use Rattle.slab_model.proofs.RunLemmas.{first_fit-in}
-use Rattle.slab_model.proofs.StateLemmas.{length-used, lowest-in}
+use Rattle.slab_model.proofs.StateLemmas.{length_used, lowest-in, AreUsed-grant}
 use Rattle.slab_model.proofs.BlockLemmas.{live_bytes-low, live_bytes-in}
 use Rattle.slab_model.proofs.SoundLemmas.{listed-is, class_page-in}
 
@@ -36,7 +36,7 @@ used_le shape class (First n) ok = omega arith
 used_le shape class Later ok = omega arith
 used_le shape class (Class own used) ok =
     let a = ok own used refl in
-    let few = length-used shape own used a in
+    let few = length_used shape own used a in
     let c = cuts shape own a.known in
     let small : length used ≤ 512 = omega (arith, few, c.sum, c.many) in
     grind (arith, common_steps, small)
@@ -63,6 +63,8 @@ pub record Listed (slab : Slab) (class page : ℕ) : Type 0 where
   pub few : page < 16384
   pub same : (d : PageState) → get_or slab.pages page d ≡ page_at slab.pages page
   pub of_class : IsOfClass (page_at slab.pages page)
+  pub used : AreUsed slab.shape class (used_in (page_at slab.pages page))
+  pub granted : AreUsed slab.shape class (with_number (lowest_unused slab.shape class (used_in (page_at slab.pages page))) (used_in (page_at slab.pages page)))
   pub index : lowest_unused slab.shape class (used_in (page_at slab.pages page)) < 512
 
 pub listed : (slab : Slab) (class page : ℕ) (rest : List ℕ) → IsSound slab → class < 9 → list_of slab class ≡ page ∷ rest → Listed slab class page
@@ -70,6 +72,7 @@ listed slab class page rest s known is =
     let z = zone slab.shape s.limits in
     let l = listed-is slab class page rest s known is in
     let here = class_page-in slab class page (used_in (page_at slab.pages page)) s l.0 in
+    let used = s.used page class (used_in (page_at slab.pages page)) l.0 in
     let low = lowest-in slab.shape class (used_in (page_at slab.pages page)) known l.1 in
     let c = cuts slab.shape class known in
     record {
@@ -77,6 +80,8 @@ listed slab class page rest s known is =
       few = omega (arith, here, z.many);
       same = λ d. get_or_default slab.pages page d Free (omega (arith, here, s.page_count));
       of_class = subst (λ (t : PageState). IsOfClass t) (sym l.0) tt;
+      used = used;
+      granted = AreUsed-grant slab.shape class (used_in (page_at slab.pages page)) used l.1;
       index = omega (arith, low.1, c.many);
     }
 
@@ -87,7 +92,7 @@ offsets slab class page index s known low few =
     let c = cuts slab.shape class known in
     let h = mul-le-mul_left (class_size class) few in
     let small : class_size class * 512 ≤ 1048576 = omega (arith, c.small) in
-    (product (class_size class) index h small, omega (arith, z.last, s.small))
+    (product (class_size class) index h small, omega (arith, z.last, s.limits.small))
   where
     product : (size index : ℕ) → size * suc index ≤ size * 512 → size * 512 ≤ 1048576 → size * index ≤ 1048576
     product size index h small = omega (arith, h, small)
@@ -151,4 +156,4 @@ small_state slab page s Later is = tt
 small_state slab page s (Class class used) is = (s.used page class used is).known
 
 pub small_page : (slab : Slab) (page : ℕ) (d : PageState) → IsSound slab → page < length slab.pages → IsSmallPage slab.shape (get_or slab.pages page d)
-small_page slab page d s low = subst (λ (t : PageState). IsSmallPage shape t) (get_or_default slab.pages page Free d low) (small_state slab page s (page_at slab.pages page) refl)
+small_page slab page d s low = subst (λ (t : PageState). IsSmallPage slab.shape t) (get_or_default slab.pages page Free d low) (small_state slab page s (page_at slab.pages page) refl)

@@ -1,5 +1,5 @@
 -- Free and used pages are all pages, and what was just granted comes back without a trace.
-use Rattle.std.proofs.Common.{ℕ, ◌≡◌, ◌+◌, ◌-◌, ◌<◌, zero, suc, min, max, true, false, not, List, [], ◌∷◌, Option, Some, None, length, sym, ap, subst, ◌∙◌, refl, arith, inl, inr, cond, get_or-set_same}
+use Rattle.std.proofs.Common.{ℕ, ◌≡◌, ◌+◌, ◌-◌, ◌<◌, zero, suc, min, max, true, false, not, ◌||◌, eqb, List, [], ◌∷◌, Option, Some, None, length, sym, ap, subst, ◌∙◌, refl, arith, inl, inr, cond, get_or-set_same}
 use Rattle.std.specs.Prelude.{count_by}
 use Rattle.std.proofs.lemmas.List.Sums.{sum_by-cons}
 use Rattle.std.proofs.lemmas.Bool.{cases_eq}
@@ -8,7 +8,7 @@ use Rattle.slab_model.specs.declared.runs.Run.{Run}
 use Rattle.slab_model.specs.declared.page.PageState.{PageState}
 use Rattle.slab_model.specs.declared.page.PageState.TheVariants.{Free, Class}
 use Rattle.slab_model.specs.Geometry.{page_offset, block_offset, pages_of, class_of, pages_for, first_index}
-use Rattle.slab_model.specs.Numbers.{is_member, without}
+use Rattle.slab_model.specs.Numbers.{is_member, with_number, without}
 use Rattle.slab_model.specs.Runs.{AreSound, IsRunApart, is_covered, is_within, page_total, first_fit, take_run, give_run}
 use Rattle.slab_model.specs.State.{Slab, page_at, list_of}
 use Rattle.slab_model.specs.Blocks.{live_bytes, IsLive, lowest_unused, used_in}
@@ -18,7 +18,7 @@ use Rattle.slab_model.specs.Return.{give_back, give_in_page}
 use Rattle.slab_model.specs.Soundness.{IsSound}
 use Rattle.slab_model.specs.Laws.{PagesLaw, RoundTripLaw}
 use Rattle.slab_model.proofs.ClassLemmas.{class_of-some, pages_for-holds}
-use Rattle.slab_model.proofs.NumberLemmas.{without-none}
+use Rattle.slab_model.proofs.NumberLemmas.{is_member-with, without-with}
 use Rattle.slab_model.proofs.RunLemmas.{apart_covers, page_total-take, page_total-give, AreSound-take, first_fit-in, is_within-parts}
 use Rattle.slab_model.proofs.PageLemmas.{page_at-use_first}
 use Rattle.slab_model.proofs.StateLemmas.{lowest-in, AreUsed-grant, AreUsed-one}
@@ -100,24 +100,26 @@ give_last : (slab : Slab) (page class : ℕ) (used left : List ℕ) → left ≡
 give_last slab page class used [] e = refl
 give_last slab page class used (l ∷ ls) e = absurd (cc)
 
-without-head : (n : ℕ) (ns : List ℕ) → is_member n ns ≡ false → without n (n ∷ ns) ≡ ns
-without-head n ns none = let h = without-none n ns none in grind (arith, common_steps, h)
+without-own : (n : ℕ) → without n (n ∷ []) ≡ []
+without-own n = grind (arith, common_steps)
 
 back_in_page : (slab : Slab) (class page : ℕ) (rest : List ℕ) → IsSound slab → class < 9 → list_of slab class ≡ page ∷ rest → free_pages (give_back (grant_in_page slab class page rest (used_in (page_at slab.pages page))).1 (block_offset slab.shape page class (lowest_unused slab.shape class (used_in (page_at slab.pages page))))) ≡ free_pages slab
 back_in_page slab class page rest s known listed =
     let used = used_in (page_at slab.pages page) in
+    let index = lowest_unused slab.shape class used in
+    let now = with_number index used in
     let new = (grant_in_page slab class page rest used).1 in
     let l = listed-is slab class page rest s known listed in
     let old_ok = s.used page class used l.0 in
     let low = lowest-in slab.shape class used known l.1 in
     let ok = AreUsed-grant slab.shape class used old_ok l.1 in
     let here = class_page-in slab class page used s l.0 in
-    let is : page_at new.pages page ≡ Class class (lowest_unused slab.shape class used ∷ used) = get_or-set_same slab.pages page (Class class (lowest_unused slab.shape class used ∷ used)) Free (omega (arith, here, s.page_count)) in
-    let back = give_back-class new page class (lowest_unused slab.shape class used) (lowest_unused slab.shape class used ∷ used) is ok (head (lowest_unused slab.shape class used) used) in
-    ap (λ (t : Slab). page_total t.runs) back ∙ ap page_total (give_kept new page class (lowest_unused slab.shape class used ∷ used) (without (lowest_unused slab.shape class used) (lowest_unused slab.shape class used ∷ used)) used (without-head (lowest_unused slab.shape class used) used low.2) old_ok.some)
+    let is : page_at new.pages page ≡ Class class now = get_or-set_same slab.pages page (Class class now) Free (omega (arith, here, s.page_count)) in
+    let back = give_back-class new page class index now is ok (own index used (is_member-with index index used)) in
+    ap (λ (t : Slab). page_total t.runs) back ∙ ap page_total (give_kept new page class now (without index now) used (without-with index used low.2) old_ok.some)
   where
-    head : (index : ℕ) (used : List ℕ) → is_member index (index ∷ used) ≡ true
-    head index used = grind (arith, common_steps)
+    own : (index : ℕ) (used : List ℕ) → is_member index (with_number index used) ≡ (eqb index index || is_member index used) → is_member index (with_number index used) ≡ true
+    own index used mem = grind (arith, common_steps, mem)
 
 back_in_new_page : (slab : Slab) (class page : ℕ) → IsSound slab → class < 9 → first_fit 1 slab.runs ≡ Some page → free_pages (give_back (grant_in_new_page slab class (Some page)).1 (block_offset slab.shape page class (first_index slab.shape class))) ≡ free_pages slab
 back_in_new_page slab class page s known fit =
@@ -129,7 +131,7 @@ back_in_new_page slab class page s known fit =
     let back = give_back-class new page class (first_index slab.shape class) (first_index slab.shape class ∷ []) is ok (head (first_index slab.shape class) []) in
     let taken = page_total-take 1 slab.runs page fit in
     let given = page_total-give total (record { first = page; pages = 1 }) (take_run 1 slab.runs) (AreSound-take total 1 slab.runs (omega arith) s.runs) in
-    ap (λ (t : Slab). page_total t.runs) back ∙ ap page_total (give_last new page class (first_index slab.shape class ∷ []) (without (first_index slab.shape class) (first_index slab.shape class ∷ [])) (without-head (first_index slab.shape class) [] refl)) ∙ omega (arith, taken, given)
+    ap (λ (t : Slab). page_total t.runs) back ∙ ap page_total (give_last new page class (first_index slab.shape class ∷ []) (without (first_index slab.shape class) (first_index slab.shape class ∷ [])) (without-own (first_index slab.shape class))) ∙ omega (arith, taken, given)
   where
     head : (index : ℕ) (used : List ℕ) → is_member index (index ∷ used) ≡ true
     head index used = grind (arith, common_steps)

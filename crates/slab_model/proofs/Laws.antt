@@ -3,6 +3,7 @@ use Rattle.std.proofs.Common.{ℕ, ◌≡◌, ◌*◌, ◌/◌, ◌<◌, true, n
 use Rattle.std.specs.Prelude.{is_some}
 use Rattle.std.proofs.lemmas.Nat.{div-mul-add}
 use Rattle.std.proofs.lemmas.Grind.{common_steps}
+use Rattle.slab_model.specs.declared.shape.Shape.{Shape}
 use Rattle.slab_model.specs.declared.page.PageState.TheVariants.{First, Class}
 use Rattle.slab_model.specs.Geometry.{page_offset, block_offset, class_size, class_of, pages_for, blocks_in_page}
 use Rattle.slab_model.specs.Numbers.{is_member, without}
@@ -14,6 +15,8 @@ use Rattle.slab_model.specs.Return.{give_back, give_from, give_in_page, give_pag
 use Rattle.slab_model.specs.Soundness.{AreUsed, IsSound}
 use Rattle.slab_model.specs.Laws.{GrantSoundLaw, ReturnSoundLaw, FitsLaw}
 use Rattle.slab_model.proofs.ClassLemmas.{cuts, class_of-some, pages_for-holds}
+use Rattle.slab_model.proofs.NumberLemmas.{member}
+use Rattle.slab_model.proofs.StateLemmas.{used-usable}
 use Rattle.slab_model.proofs.SoundLemmas.{IsSound-in_page, IsSound-failed, IsSound-new_page, IsSound-run, IsSound-give_pages, IsSound-give_in_page}
 use Rattle.slab_model.proofs.BlockLemmas.{page_number-is, place_in_page-is, block_end, Lies, lies}
 use Rattle.slab_model.proofs.BlockLemmas.Lies.{in_page, over_pages}
@@ -37,7 +40,7 @@ grant_as-sound slab size s some (Some class) is = grant_from_list-sound slab cla
 
 pub grant-sound : GrantSoundLaw
 unfolding grant
-grant-sound slab size s some = grant_as-sound slab size s some (class_of shape size) refl
+grant-sound slab size s some = grant_as-sound slab size s some (class_of slab.shape size) refl
 
 -- ---- give back keeps soundness
 
@@ -46,7 +49,7 @@ pub give_back-class : (slab : Slab) (page class index : ℕ) (used : List ℕ) �
 unfolding give_back
 give_back-class slab page class index used is ok there =
     let c = cuts slab.shape class ok.known in
-    let end = block_end (class_size class) index (blocks_in_page slab.shape class) c.whole (ok.usable index there).1 in
+    let end = block_end (class_size class) index (blocks_in_page slab.shape class) c.whole (used-usable slab.shape class index used ok ((member index used).0 there)).1 in
     let place : class_size class * index < 4096 = omega (arith, c.some) in
     ap (λ n. give_from slab n (place_in_page slab.shape (block_offset slab.shape page class index)) (page_at slab.pages n)) (page_number-is slab.shape page (class_size class * index) place)
     ∙ ap (λ n. give_from slab page n (page_at slab.pages page)) (place_in_page-is slab.shape page (class_size class * index) place)
@@ -62,8 +65,8 @@ give_back-run slab page count is =
     ap (λ n. give_from slab n (place_in_page slab.shape (page_offset slab.shape page)) (page_at slab.pages n)) (number slab.shape page)
     ∙ ap (λ t. give_from slab page (place_in_page slab.shape (page_offset slab.shape page)) t) is
   where
-    number : (bytes page : ℕ) → page_number bytes (page_offset bytes page) ≡ page
-    number bytes page = omega arith
+    number : (shape : Shape) (page : ℕ) → page_number shape (page_offset shape page) ≡ page
+    number shape page = omega arith
 
 give_back-sound_at : (slab : Slab) (at : ℕ) → IsSound slab → Lies slab at → IsSound (give_back slab at)
 give_back-sound_at slab at s (in_page page class used index is ok there at_is bytes) =
@@ -95,4 +98,4 @@ fits_class slab size (Some class) = fits_list slab class (list_of slab class)
 
 pub fits-grant : FitsLaw
 unfolding fits grant
-fits-grant slab size = fits_class slab size (class_of shape size)
+fits-grant slab size = fits_class slab size (class_of slab.shape size)

@@ -1,10 +1,11 @@
 -- Members of lists, ascending lists, and the lowest number that is not in one.
-use Rattle.std.proofs.Common.{ℕ, ◌≡◌, ◌≢◌, ◌↔◌, ◌⊎◌, ◌+◌, ◌<◌, ◌≤◌, zero, suc, Bool, true, false, not, ◌&&◌, ◌||◌, List, [], ◌∷◌, length, cond, ap, sym, ◌∙◌, refl, arith, eqb, ltb, inl, inr}
+use Rattle.std.proofs.Common.{ℕ, ◌≡◌, ◌≢◌, ◌↔◌, ◌⊎◌, ◌+◌, ◌<◌, ◌≤◌, zero, suc, Bool, true, false, not, ◌&&◌, ◌||◌, List, [], ◌∷◌, ◌++◌, length, take, drop, get_or, cond, ap, sym, ◌∙◌, refl, arith, eqb, ltb, inl, inr}
 use Rattle.std.proofs.lemmas.Bool.{cases_Bool, cases_eq, cases_lt, eqb-true, eqb-false}
 use Rattle.std.proofs.lemmas.Grind.{common_steps}
 use Rattle.std.specs.List.{list_any}
 use Rattle.zone_region.specs.Members.{In, IsDistinct}
 use Rattle.slab_model.specs.Numbers.{is_member, AscendsFrom, with_number, without}
+use Rattle.slab_model.specs.Inside.{place_in}
 use Rattle.slab_model.specs.Blocks.{first_unused}
 
 -- ---- members
@@ -51,10 +52,10 @@ without-none n (m ∷ ms) none = let ih = without-none n ms in grind (arith, com
 
 pub IsDistinct-without : (n : ℕ) (ns : List ℕ) → IsDistinct ns → IsDistinct (without n ns)
 IsDistinct-without n [] once = tt
-IsDistinct-without n (m ∷ ms) once = choose (not (eqb n m)) where
-  choose : (kept : Bool) → IsDistinct (cond kept (m ∷ without n ms) (without n ms))
-  choose true = (λ h. once.0 (In-without m n ms h), IsDistinct-without n ms once.1)
-  choose false = IsDistinct-without n ms once.1
+IsDistinct-without n (m ∷ ms) once = choose (not (eqb n m)) (IsDistinct-without n ms once.1) where
+  choose : (kept : Bool) → IsDistinct (without n ms) → IsDistinct (cond kept (m ∷ without n ms) (without n ms))
+  choose true rest = (λ h. once.0 (In-without m n ms h), rest)
+  choose false rest = rest
 
 pub length-without : (n : ℕ) (ns : List ℕ) → IsDistinct ns → is_member n ns ≡ true → length (without n ns) + 1 ≡ length ns
 length-without n [] once there = absurd (cc)
@@ -86,17 +87,17 @@ IsDistinct-ascending low (n ∷ ns) up = (λ h. let le = In-from (suc n) n ns up
 
 pub AscendsFrom-without : (low n : ℕ) (ns : List ℕ) → AscendsFrom low ns → AscendsFrom low (without n ns)
 AscendsFrom-without low n [] up = tt
-AscendsFrom-without low n (m ∷ ms) up = choose (not (eqb n m)) where
-  choose : (kept : Bool) → AscendsFrom low (cond kept (m ∷ without n ms) (without n ms))
-  choose true = (up.0, AscendsFrom-without (suc m) n ms up.1)
-  choose false = AscendsFrom-less low (suc m) (without n ms) (omega (arith, up.0)) (AscendsFrom-without (suc m) n ms up.1)
+AscendsFrom-without low n (m ∷ ms) up = choose (not (eqb n m)) (AscendsFrom-without (suc m) n ms up.1) where
+  choose : (kept : Bool) → AscendsFrom (suc m) (without n ms) → AscendsFrom low (cond kept (m ∷ without n ms) (without n ms))
+  choose true rest = (up.0, rest)
+  choose false rest = AscendsFrom-less low (suc m) (without n ms) (omega (arith, up.0)) rest
 
 pub AscendsFrom-with : (low n : ℕ) (ns : List ℕ) → low ≤ n → AscendsFrom low ns → (In n ns → ⊥) → AscendsFrom low (with_number n ns)
 AscendsFrom-with low n [] le up none = (le, tt)
-AscendsFrom-with low n (m ∷ ms) le up none = choose (ltb n m) refl where
-  choose : (before : Bool) → ltb n m ≡ before → AscendsFrom low (cond before (n ∷ m ∷ ms) (m ∷ with_number n ms))
-  choose true is = (le, let less : n < m = grind (arith, common_steps) in less, up.1)
-  choose false is = let more : m ≤ n = grind (arith, common_steps) in let ne : n ≢ m = λ e. none (inl e) in (up.0, AscendsFrom-with (suc m) n ms (omega (arith, more, ne)) up.1 (λ h. none (inr h)))
+AscendsFrom-with low n (m ∷ ms) le up none = choose (ltb n m) refl (λ more. AscendsFrom-with (suc m) n ms more up.1 (λ h. none (inr h))) where
+  choose : (before : Bool) → ltb n m ≡ before → (suc m ≤ n → AscendsFrom (suc m) (with_number n ms)) → AscendsFrom low (cond before (n ∷ m ∷ ms) (m ∷ with_number n ms))
+  choose true is rest = let less : n < m = grind (arith, common_steps) in (le, (less, up.1))
+  choose false is rest = let more : m ≤ n = grind (arith, common_steps) in let ne : n ≢ m = λ e. none (inl e) in (up.0, rest (omega (arith, more, ne)))
 
 pub is_member-with : (i n : ℕ) (ns : List ℕ) → is_member i (with_number n ns) ≡ (eqb i n || is_member i ns)
 is_member-with i n [] = refl
@@ -105,6 +106,18 @@ is_member-with i n (m ∷ ms) = let ih = is_member-with i n ms in grind (arith, 
 pub length-with : (n : ℕ) (ns : List ℕ) → length (with_number n ns) ≡ length ns + 1
 length-with n [] = refl
 length-with n (m ∷ ms) = let ih = length-with n ms in grind (arith, common_steps, ih)
+
+-- where a number goes in
+pub with_place : (n : ℕ) (ns : List ℕ) → with_number n ns ≡ take (place_in n ns) ns ++ n ∷ drop (place_in n ns) ns
+with_place n [] = refl
+with_place n (m ∷ ms) = let ih = with_place n ms in choose (ltb n m) ih where
+  choose : (before : Bool) → with_number n ms ≡ take (place_in n ms) ms ++ n ∷ drop (place_in n ms) ms → cond before (n ∷ m ∷ ms) (m ∷ with_number n ms) ≡ take (cond before 0 (1 + place_in n ms)) (m ∷ ms) ++ n ∷ drop (cond before 0 (1 + place_in n ms)) (m ∷ ms)
+  choose true ih = refl
+  choose false ih = let suc_is : 1 + place_in n ms ≡ suc (place_in n ms) = omega arith in ap (λ k. m ∷ k) ih ∙ ap (λ k. take k (m ∷ ms) ++ n ∷ drop k (m ∷ ms)) (sym suc_is)
+
+pub place_in_le : (n : ℕ) (ns : List ℕ) → place_in n ns ≤ length ns
+place_in_le n [] = omega arith
+place_in_le n (m ∷ ms) = let ih = place_in_le n ms in grind (arith, common_steps, ih)
 
 -- a number that goes in and out again
 pub without-with : (n : ℕ) (ns : List ℕ) → is_member n ns ≡ false → without n (with_number n ns) ≡ ns
@@ -211,3 +224,22 @@ first_gap-full count low ns up below =
       | inl e ↦ let packed = first_gap-packed low ns up (λ n h. let le = below n h in omega (arith, le, e)) in grind (arith, common_steps, packed, e)
       | inr ne ↦ grind (arith, common_steps, few, high, ne)
     ]
+
+-- a pass that has come to place `k`
+pub gap_step : (k index : ℕ) (ns : List ℕ) → k < length ns → get_or ns k 0 ≡ index → first_gap index (drop k ns) ≡ first_gap (index + 1) (drop (k + 1) ns)
+unfolding first_gap
+gap_step k index [] low is = absurd (omega arith)
+gap_step zero index (n ∷ ns) low is = grind (arith, common_steps, is)
+gap_step (suc k) index (n ∷ ns) low is = let e : suc k + 1 ≡ suc (k + 1) = omega arith in gap_step k index ns (omega arith) is ∙ ap (λ j. first_gap (index + 1) (drop j (n ∷ ns))) (sym e)
+
+pub gap_here : (k index : ℕ) (ns : List ℕ) → k < length ns → get_or ns k 0 ≢ index → first_gap index (drop k ns) ≡ index
+unfolding first_gap
+gap_here k index [] low ne = absurd (omega arith)
+gap_here zero index (n ∷ ns) low ne = grind (arith, common_steps, ne)
+gap_here (suc k) index (n ∷ ns) low ne = gap_here k index ns (omega arith) ne
+
+pub gap_end : (k index : ℕ) (ns : List ℕ) → length ns ≤ k → first_gap index (drop k ns) ≡ index
+unfolding first_gap
+gap_end k index [] past = grind (arith, common_steps)
+gap_end zero index (n ∷ ns) past = absurd (omega arith)
+gap_end (suc k) index (n ∷ ns) past = gap_end k index ns (omega arith)

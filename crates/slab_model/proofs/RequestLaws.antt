@@ -45,7 +45,7 @@ from_list slab class low [] = new_page (first_fit 1 slab.runs) where
 pub requests-law : RequestsLaw
 unfolding grant
 requests-law slab size class s is =
-    let known = class_of-some shape size class is in
+    let known = class_of-some slab.shape size class is in
     let low : class < length slab.stats = omega (arith, s.stat_count, known.0) in
     subst (λ (c : Option ℕ). CountsRequest slab (grant_as slab size c).1 class (is_some (grant_as slab size c).0)) (sym is) (from_list slab class low (list_of slab class))
 

@@ -138,21 +138,21 @@ AreUsed-give shape class index used ok some = record {
 }
 
 -- a page has no more live blocks than it can grant
-pub length-used : (shape : Shape) (class : ℕ) (used : List ℕ) → AreUsed shape class used → length used ≤ usable_blocks shape class
-length-used shape class used ok =
+pub length_used : (shape : Shape) (class : ℕ) (used : List ℕ) → AreUsed shape class used → length used ≤ usable_blocks shape class
+length_used shape class used ok =
     let c = cuts shape class ok.known in
     let few = length-ascending (first_index shape class) (blocks_in_page shape class) used ok.ascending (omega (arith, c.sum)) ok.below in
     omega (arith, few, c.sum)
 
 -- the lowest unused index in one pass over the used ones
-pub lowest-gap : (shape : Shape) (class : ℕ) (used : List ℕ) → AreUsed shape class used → first_gap (first_index shape class) used ≡ lowest_unused shape class used
-lowest-gap shape class used ok = let c = cuts shape class ok.known in first_gap-is (usable_blocks shape class) (first_index shape class) used ok.ascending (λ n there. let high = ok.below n there in omega (arith, high, c.sum))
+pub lowest_gap : (shape : Shape) (class : ℕ) (used : List ℕ) → AreUsed shape class used → first_gap (first_index shape class) used ≡ lowest_unused shape class used
+lowest_gap shape class used ok = let c = cuts shape class ok.known in first_gap-is (usable_blocks shape class) (first_index shape class) used ok.ascending (λ n there. let high = ok.below n there in omega (arith, high, c.sum))
 
 -- a page is full where it has as many used indexes as it can grant
-pub full-length : (shape : Shape) (class : ℕ) (used : List ℕ) → AreUsed shape class used → is_full shape class used ≡ eqb (length used) (usable_blocks shape class)
-full-length shape class used ok =
+pub full_length : (shape : Shape) (class : ℕ) (used : List ℕ) → AreUsed shape class used → is_full shape class used ≡ eqb (length used) (usable_blocks shape class)
+full_length shape class used ok =
     let c = cuts shape class ok.known in
-    let gap = lowest-gap shape class used ok in
+    let gap = lowest_gap shape class used ok in
     let packed = first_gap-full (usable_blocks shape class) (first_index shape class) used ok.ascending (λ n there. let high = ok.below n there in omega (arith, high, c.sum)) in
     ap (λ k. eqb k (blocks_in_page shape class)) (sym gap) ∙ ap (λ k. eqb (first_gap (first_index shape class) used) k) (sym c.sum) ∙ packed
 

@@ -65,6 +65,10 @@ pages_for shape size = (size + (page_size shape - 1)) / page_size shape
 abbrev pub class_count : Shape → ℕ
 class_count shape = 9
 
+-- no zone has more classes, whatever its pages
+abbrev pub most_classes : ℕ
+most_classes = 13
+
 -- the size of a class's blocks
 unfoldable pub class_size : ℕ → ℕ
 class_size class = 8 * 2 ^ class

@@ -1,5 +1,5 @@
 -- What the plain program keeps, as a slab; its callers see the slab alone.
-use Rattle.std.specs.Prelude.{ℕ, ◌^◌, ◌<◌, Option, Some, None}
+use Rattle.std.specs.Prelude.{ℕ, ◌+◌, ◌^◌, ◌<◌, nat_lt, List, [], ◌∷◌, Option, Some, None, if◌then◌else◌}
 use Rattle.zone_region.specs.declared.blocks.Block.{Block}
 use Rattle.slab_model.specs.declared.parts.Parts.{Parts}
 use Rattle.slab_model.specs.declared.shape.Shape.{Shape}
@@ -30,3 +30,8 @@ IsSmallPage shape Free = Unit {0}
 IsSmallPage shape (First pages) = pages < 2 ^ 32
 IsSmallPage shape Later = Unit {0}
 IsSmallPage shape (Class class used) = class < class_count shape
+
+-- how many numbers at the front of the list are at most `n`
+abbrev pub place_in : ℕ → List ℕ → ℕ
+place_in n [] = 0
+place_in n (m ∷ ms) = if nat_lt n m then 0 else 1 + place_in n ms

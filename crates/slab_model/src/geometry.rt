@@ -1,5 +1,5 @@
 ghost use Rattle.std.specs.Prelude.{◌≡◌, ℕ, ◌+◌, ◌*◌, ◌-◌, ◌/◌, ◌<◌, ◌≤◌};
-ghost use Rattle.slab_model.specs.Geometry.{IsInLimits, page_size as size_of_page, pages_of, start_of, greatest_zone, class_count as count_of_classes, class_size as size_of_class, class_of as class_for, pages_for as whole_pages, blocks_in_page as blocks_of, first_index as first_of, usable_blocks as usable_of};
+ghost use Rattle.slab_model.specs.Geometry.{IsInLimits, page_size as size_of_page, pages_of, start_of, greatest_zone, class_count as count_of_classes, most_classes, class_size as size_of_class, class_of as class_for, pages_for as whole_pages, blocks_in_page as blocks_of, first_index as first_of, usable_blocks as usable_of};
 
 use crate::shape::Shape;
 
@@ -86,7 +86,7 @@ pub fn pages_for(shape: Shape, size: u64) -> u64
 /// The bytes of a class's blocks.
 #[tactic(auto, unfolding(crate::specs::Geometry::class_size))]
 pub fn class_size(class: u32) -> u64
-    requires { class < 61 }
+    requires { class < most_classes }
     ensures { result ≡ size_of_class class }
 {
     8 << class

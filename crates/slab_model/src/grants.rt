@@ -44,8 +44,9 @@ fn grant_in_page(parts: &mut Parts, alloc: Global, class: u32, page: u64) -> Res
     let used = indexes(&parts.pages[page as usize]);
     let index = lowest_unused(parts.shape, class, used);
     let used = used.with(alloc, index)?;
+    let full = is_full(parts.shape, class, &used);
     let block = block_at(parts, class, page, index);
-    if is_full(parts.shape, class, &used) {
+    if full {
         let rest = parts.lists[class as usize].rest(alloc)?;
         parts.lists[class as usize] = rest;
     }

@@ -1,4 +1,5 @@
-ghost use Rattle.std.specs.Prelude.{◌≡◌, ◌<◌, ◌≤◌, [], ◌∷◌, ◌++◌, length, take, drop, IfOk, MatchOption};
+ghost use Rattle.std.specs.Prelude.{◌≡◌, ◌<◌, [], ◌∷◌, length, drop, IfOk, MatchOption};
+ghost use Rattle.slab_model.specs.Inside.{place_in};
 ghost use Rattle.slab_model.specs.Numbers.{is_member, with_number, without as without_one};
 
 use std::alloc::Global;
@@ -21,8 +22,7 @@ impl Model for Numbers {
 
 /// How many numbers at the front of the list are at most `n`.
 fn place_of(numbers: &[u64], n: u64) -> usize
-    ensures low { result ≤ length numbers.now }
-    ensures splits { with_number n numbers.now ≡ take result numbers.now ++ n ∷ drop result numbers.now }
+    ensures { result ≡ place_in n numbers.now }
 {
     let mut place = 0;
     for number in numbers {
@@ -93,6 +93,7 @@ impl Numbers {
     }
 
     /// The ascending list with this number in its place.
+    #[tactic(auto, using(crate::proofs::NumberLemmas::with_place, crate::proofs::NumberLemmas::place_in_le))]
     pub fn with(&self, alloc: Global, n: u64) -> Result<Numbers, NoMemory>
         ensures { IfOk result (λ ns. ns ≡ with_number n self.now) }
     {

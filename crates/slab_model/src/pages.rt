@@ -35,8 +35,9 @@ pub fn lowest_unused(shape: Shape, class: u32, used: &Numbers) -> u64
     ensures { result ≡ lowest_of shape class used.now }
 {
     let mut index = first_index(shape, class);
-    for used_index in used.as_slice() {
-        if *used_index != index {
+    let numbers = used.as_slice();
+    for number in numbers {
+        if *number != index {
             return index;
         }
         index += 1;
@@ -45,6 +46,7 @@ pub fn lowest_unused(shape: Shape, class: u32, used: &Numbers) -> u64
 }
 
 /// Whether all blocks that a page of the class can grant are used.
+#[tactic(auto, using(crate::proofs::StateLemmas::full_length))]
 pub fn is_full(shape: Shape, class: u32, used: &Numbers) -> bool
     requires limits { IsInLimits shape }
     requires used { AreUsed shape class used.now }

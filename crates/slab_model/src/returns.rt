@@ -1,5 +1,6 @@
 ghost use Rattle.std.specs.Prelude.{◌≡◌, ℕ, ◌<◌, ◌≤◌, [], ◌∷◌, drop, IfOk, OnErr, OnOk};
 ghost use Rattle.slab_model.specs.declared.page.PageState.TheVariants.{First, Class};
+ghost use Rattle.slab_model.specs.Geometry.{class_count};
 ghost use Rattle.slab_model.specs.Numbers.{without};
 ghost use Rattle.slab_model.specs.Inside.{slab_of};
 ghost use Rattle.slab_model.specs.State.{Slab, list_of, page_at};
@@ -36,6 +37,7 @@ fn give_pages(parts: &mut Parts, alloc: Global, page: u64, count: u64) -> Result
 /// Gives the last block of a page of the class back, and the page with it.
 fn give_last(parts: &mut Parts, alloc: Global, page: u64, class: u32) -> Result<(), NoMemory>
     requires sound { IsSound (slab_of parts.old) }
+    requires known { class < class_count parts.old.shape }
     requires class { page_at parts.old.pages.items page ≡ Class class (used_in (page_at parts.old.pages.items page)) }
     ensures ok { OnOk result (slab_of parts.new ≡ given_in_page (slab_of parts.old) page class (used_in (page_at parts.old.pages.items page)) []) }
     ensures err { OnErr result (parts.new ≡ parts.old) }
@@ -62,16 +64,18 @@ fn give_in_page(
     index: u64,
 ) -> Result<(), NoMemory>
     requires sound { IsSound (slab_of parts.old) }
+    requires known { class < class_count parts.old.shape }
     requires class { page_at parts.old.pages.items page ≡ Class class (used_in (page_at parts.old.pages.items page)) }
     ensures ok { OnOk result (slab_of parts.new ≡ given_in_page (slab_of parts.old) page class (used_in (page_at parts.old.pages.items page)) (without index (used_in (page_at parts.old.pages.items page)))) }
     ensures err { OnErr result (parts.new ≡ parts.old) }
 {
     let used = indexes(&parts.pages[page as usize]);
+    let full = is_full(parts.shape, class, used);
     let left = used.without(alloc, index)?;
     if left.len() == 0 {
         return give_last(parts, alloc, page, class);
     }
-    if is_full(parts.shape, class, used) {
+    if full {
         let list = parts.lists[class as usize].with_first(alloc, page)?;
         parts.lists[class as usize] = list;
     }
