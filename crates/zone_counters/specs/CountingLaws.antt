@@ -1,15 +1,15 @@
 -- The laws of a row of counters.
-use Rattle.std.proofs.Common.{◌≡◌, ◌≢◌, ℕ, ◌+◌, ◌-◌, ◌<◌, ◌≤◌, ◌^◌, ◌⊎◌, Bool, true, false, List, [], ◌∷◌, ◌++◌, length, refl, sym, ap, ◌∙◌, subst, inl, inr, arith, length-append, length-set, set, get_or, get_or-set_other}
-use Rattle.std.specs.Prelude.{nat_eq, nat_lt, sum_by, slice_set, slice_index, if◌then◌else◌}
+use Rattle.std.proofs.Common.{◌≡◌, ◌≢◌, ℕ, ◌+◌, ◌-◌, ◌<◌, ◌≤◌, ◌⊎◌, Bool, true, false, List, [], ◌∷◌, ◌++◌, length, refl, sym, ap, ◌∙◌, subst, inl, inr, arith, length-append, length-set, get_or-set_other}
+use Rattle.std.specs.Prelude.{nat_eq, nat_lt, sum_by, slice_index, if◌then◌else◌}
 use Rattle.std.proofs.lemmas.List.{get_or_past}
-use Rattle.std.proofs.lemmas.Grind.{common_steps, get_or-set_at}
+use Rattle.std.proofs.lemmas.Grind.{get_or-set_at}
 use Rattle.zone_counters.specs.declared.Counters.{Counters}
 use Rattle.zone_counters.specs.declared.CounterState.{CounterState}
 use Rattle.zone_counters.specs.declared.CounterCall.{CounterCall}
 use Rattle.zone_counters.specs.declared.CounterCall.TheVariants.{Raise, Lower}
 use Rattle.zone_counters.specs.declared.CounterReply.{CounterReply}
 use Rattle.zone_counters.specs.declared.CounterReply.TheVariants.{Raised, NoCounter, Lowered}
-use Rattle.zone_object.specs.History.{own, entry, IsReady, IsHistory}
+use Rattle.zone_object.specs.History.{entry, IsReady, IsHistory}
 use Rattle.zone_object.specs.Fair.{GivesBackOwn}
 use Rattle.zone_object.specs.Carried.{MayFollow, Carries}
 use Rattle.zone_counters.specs.Counting.{Made, Lays, AreZero, count_at, with_count, reply_of, state_after, given, given_by, back, back_by, Permits, Ready, CanAnswer, Holds}

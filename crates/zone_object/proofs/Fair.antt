@@ -1,11 +1,11 @@
 -- Whoever gives back only its own, what was given back weighs no more than what was given.
-use Rattle.std.proofs.Common.{◌≡◌, ℕ, ◌+◌, ◌<◌, ◌≤◌, ◌⊎◌, Bool, true, false, cond, List, [], ◌∷◌, ◌++◌, sym, refl, ap, ◌∙◌, subst, append_assoc, ⊎_elim, arith}
-use Rattle.std.specs.Prelude.{◌==◌, ◌&&◌, not, sum_by, filter}
+use Rattle.std.proofs.Common.{◌≡◌, ℕ, ◌+◌, ◌≤◌, ◌⊎◌, Bool, true, false, cond, List, [], ◌∷◌, ◌++◌, sym, refl, ap, ◌∙◌, subst, append_assoc, ⊎_elim, arith}
+use Rattle.std.specs.Prelude.{◌==◌, ◌&&◌, not, sum_by}
 use Rattle.std.proofs.lemmas.List.Sums.{sum_by-append, sum_by-cons}
 use Rattle.std.proofs.lemmas.List.{append-nil}
 use Rattle.std.proofs.lemmas.Bool.Decides.{nat_tests}
 use Rattle.zone_object.specs.declared.object.Entry.{Entry}
-use Rattle.zone_object.specs.History.{own, is_of, IsPermitted}
+use Rattle.zone_object.specs.History.{own, IsPermitted}
 use Rattle.zone_object.specs.Fair.{weight_by, IsFair, GivesBackOwn, FairLaw, HeldLaw}
 
 module _ {X St C R : Type 0} where

@@ -1,8 +1,8 @@
 -- Histories that are joined and split.
-use Rattle.std.proofs.Common.{◌≡◌, ◌==◌, ℕ, ◌+◌, ◌<◌, ◌^◌, Bool, true, false, List, [], ◌∷◌, ◌++◌, length, sym, refl, ap, ◌∙◌, subst, append_assoc, arith, length-append}
+use Rattle.std.proofs.Common.{◌≡◌, ℕ, ◌+◌, ◌<◌, ◌^◌, List, [], ◌∷◌, ◌++◌, length, sym, refl, subst, append_assoc, arith, length-append}
 use Rattle.std.proofs.lemmas.List.{append-nil}
 use Rattle.zone_object.specs.declared.object.Entry.{Entry}
-use Rattle.zone_object.specs.History.{entry, own, run, AtEach, IsLegal, IsPermitted, IsWellFormed, IsReady, IsAnswered, IsHistory, HasRun}
+use Rattle.zone_object.specs.History.{entry, own, run, AtEach, IsPermitted, IsReady, IsAnswered, IsHistory, HasRun}
 
 module _ {X St C R : Type 0} where
   module _ (state_after : St → C → St) where

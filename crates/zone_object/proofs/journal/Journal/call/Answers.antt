@@ -1,4 +1,4 @@
-use Rattle.std.proofs.Common.{◌≡◌, ◌+◌, ◌<◌, ◌≤◌, ◌^◌, length, sym, subst, arith}
+use Rattle.std.proofs.Common.{◌<◌, length, sym, subst, arith}
 use Rattle.zone_object.specs.History.{own, HasRun}
 use Rattle.zone_object.proofs.Histories.{has_run-ready, has_run-apply}
 use Rattle.zone_object.proofs.journal.Journal.call.Goals as goal
