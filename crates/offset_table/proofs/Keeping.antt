@@ -1,12 +1,12 @@
 -- For callers: what other changes leave of a table, and when a block can be added.
 use Rattle.std.proofs.Common.{ℕ, ◌≡◌, ◌≢◌, ◌≤◌, List, ◌∷◌, inl, inr, sym, subst, ◌∙◌, ap, refl, arith}
-use Rattle.zone_region.specs.Words.{Words, word_at, SetsWord}
+use Rattle.zone_region.specs.Words.{Words, SetsWord}
 use Rattle.zone_region.specs.Members.{In}
 use Rattle.zone_region.specs.Holding.{HoldsBlocks}
 use Rattle.zone_region.proofs.WordLemmas.{word_at-set_block, word_at-set_index, length-set_word}
 use Rattle.offset_queue.proofs.Keeping.{kept_queue, kept_blocks as kept_links}
 use Rattle.offset_tree.specs.Keys.{HoldsKey}
-use Rattle.offset_tree.proofs.Keeping.{kept_tree, kept_blocks as kept_nodes, kept_request_nodes, rank_of-request, same_block}
+use Rattle.offset_tree.proofs.Keeping.{kept_tree, kept_blocks as kept_nodes, kept_request_nodes, same_block}
 use Rattle.offset_table.specs.declared.table.Table.{Table}
 use Rattle.offset_table.specs.Table.{request_form, tree_of, queue_of, rank_at, IsTable, CanAdd}
 

@@ -1,6 +1,6 @@
 -- What each structure leaves of the other, and what both leave of the table.
-use Rattle.std.proofs.Common.{ℕ, ◌≡◌, ◌≢◌, ◌⊎◌, ◌+◌, ◌/◌, ◌≤◌, List, ◌∷◌, length, ap, subst, sym, ◌∙◌, refl, arith, inl, inr}
-use Rattle.zone_region.specs.Words.{Words, word_at}
+use Rattle.std.proofs.Common.{ℕ, ◌≢◌, ◌/◌, List, ap, subst, ◌∙◌, refl, arith, inl, inr}
+use Rattle.zone_region.specs.Words.{Words}
 use Rattle.zone_region.specs.Members.{In}
 use Rattle.offset_queue.specs.Queue.{IsQueue, ChangesLinks}
 use Rattle.offset_queue.proofs.Keeping.{kept_queue}

@@ -1,8 +1,7 @@
 -- What each call leaves of a table.
-use Rattle.std.proofs.Common.{ℕ, ◌≡◌, ◌≢◌, ◌⊎◌, ◌+◌, ◌*◌, ◌≤◌, List, [], ◌∷◌, ◌++◌, length, sym, ap, subst, ◌∙◌, refl, arith, inl, inr}
-use Rattle.zone_region.specs.Words.{Words, word_at}
+use Rattle.std.proofs.Common.{ℕ, ◌≡◌, List, [], ◌∷◌, ◌++◌, length, sym, subst, ◌∙◌, arith, inl, inr}
+use Rattle.zone_region.specs.Words.{Words}
 use Rattle.zone_region.specs.Members.{In, IsDistinct}
-use Rattle.zone_region.specs.Holding.{HoldsBlocks}
 use Rattle.zone_region.proofs.HoldingLemmas.{holds_some, holds_kept}
 use Rattle.zone_region.proofs.MembersLemmas.{In-more, In-one_more, In-middle, In-moved, IsDistinct-split, same_length}
 use Rattle.offset_queue.specs.Queue.{IsHead, IsQueue, CanPush, ChangesLinks}

@@ -1,5 +1,5 @@
 -- A table of nodes: a queue and a tree of the same blocks.
-use Rattle.std.specs.Prelude.{ℕ, ◌≡◌, ◌≢◌, ◌⊎◌, ◌+◌, ◌*◌, ◌/◌, ◌^◌, ◌<◌, ◌≤◌, List, [], ◌∷◌, length}
+use Rattle.std.specs.Prelude.{ℕ, ◌≡◌, ◌≢◌, ◌⊎◌, ◌+◌, ◌*◌, ◌/◌, ◌^◌, ◌<◌, ◌≤◌, List, ◌∷◌, length}
 use Rattle.zone_region.specs.Words.{Words, word_at}
 use Rattle.zone_region.specs.Members.{In}
 use Rattle.zone_region.specs.Holding.{HoldsBlocks}

@@ -1,4 +1,4 @@
-use Rattle.std.proofs.Common.{ℕ, ◌≡◌, ◌+◌, ◌*◌, ◌≤◌, List, ◌∷◌, length, sym, ap, subst, arith}
+use Rattle.std.proofs.Common.{ℕ, List, ◌∷◌, length, sym, ap, subst, arith}
 use Rattle.offset_queue.specs.declared.queue.Queue.{Queue}
 use Rattle.offset_queue.specs.Queue.{IsQueue, CanPush, ChangesLinks}
 use Rattle.offset_tree.specs.declared.tree.Tree.{Tree}

@@ -1,4 +1,4 @@
-use Rattle.std.proofs.Common.{ℕ, ◌≡◌, ◌≢◌, ◌+◌, ◌≤◌, List, length, MatchOption, Some, None, sym, ap, subst, arith}
+use Rattle.std.proofs.Common.{ℕ, ◌≡◌, ◌≢◌, List, length, MatchOption, Some, None, sym, ap, subst, arith}
 use Rattle.std.specs.declared.option.Option.{Option}
 use Rattle.zone_region.specs.declared.blocks.Block.{Block}
 use Rattle.zone_region.specs.Words.{Words}
@@ -8,7 +8,7 @@ use Rattle.offset_tree.specs.Keys.{Rank, rank_of}
 use Rattle.offset_tree.specs.Bounds.{search_cost}
 use Rattle.offset_tree.specs.Layout.{IsTree}
 use Rattle.offset_table.specs.declared.table.Table.{Table}
-use Rattle.offset_table.specs.Table.{tree_of, rank_at, IsTable}
+use Rattle.offset_table.specs.Table.{rank_at, IsTable}
 use Rattle.offset_table.proofs.Tables.{equally_many}
 use Rattle.offset_table.proofs.calls.find.Goals as goal
 

@@ -1,4 +1,4 @@
-use Rattle.std.proofs.Common.{ℕ, [], sym, subst}
+use Rattle.std.proofs.Common.{[], subst}
 use Rattle.offset_queue.specs.declared.queue.Queue.{Queue}
 use Rattle.offset_queue.specs.Queue.{IsQueue, ChangesLinks}
 use Rattle.offset_tree.specs.declared.tree.Tree.{Tree}

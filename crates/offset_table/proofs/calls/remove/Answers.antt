@@ -1,4 +1,4 @@
-use Rattle.std.proofs.Common.{ℕ, List, ◌∷◌, ◌++◌, sym, subst, ◌∙◌}
+use Rattle.std.proofs.Common.{ℕ, List, ◌∷◌, ◌++◌, sym, subst}
 use Rattle.zone_region.specs.Members.{In}
 use Rattle.zone_region.proofs.MembersLemmas.{In-middle, In-split}
 use Rattle.offset_queue.specs.declared.queue.Queue.{Queue}
@@ -6,7 +6,7 @@ use Rattle.offset_queue.specs.Queue.{IsQueue, ChangesLinks}
 use Rattle.offset_tree.specs.declared.tree.Tree.{Tree}
 use Rattle.offset_tree.specs.Changes.{ChangesNodes}
 use Rattle.offset_tree.specs.Layout.{IsTree}
-use Rattle.offset_table.specs.Table.{tree_of, queue_of, IsTable}
+use Rattle.offset_table.specs.Table.{queue_of, IsTable}
 use Rattle.offset_table.proofs.Sharing.{queue_keeps_tree, links_in_table, nodes_in_table, table_changed_twice}
 use Rattle.offset_table.proofs.Tables.{removed}
 use Rattle.offset_table.proofs.calls.remove.Given as given

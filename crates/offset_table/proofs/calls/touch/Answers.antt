@@ -1,4 +1,4 @@
-use Rattle.std.proofs.Common.{ℕ, ◌∷◌, ◌++◌, sym, subst}
+use Rattle.std.proofs.Common.{◌∷◌, ◌++◌, sym, subst}
 use Rattle.zone_region.proofs.MembersLemmas.{In-middle}
 use Rattle.offset_queue.specs.declared.queue.Queue.{Queue}
 use Rattle.offset_queue.specs.Queue.{IsQueue, ChangesLinks}
