@@ -1,8 +1,6 @@
 -- The first fault of a text.
 use Rattle.std.specs.Prelude.{ℕ, ◌+◌, ◌-◌, Bool, true, false, ◌==◌, ◌||◌, nat_lt, List, [], ◌∷◌, Option, None, Some, if◌then◌else◌}
-use Rattle.directive_text.specs.declared.token.Token.{Token}
-use Rattle.directive_text.specs.declared.token.Lexeme.{Lexeme}
-use Rattle.directive_text.specs.declared.token.Lexeme.TheVariants.{Word, Semicolon, Opening, Closing, Misplaced, End}
+use Rattle.directive_text.specs.Lexemes.{Token, Lexeme, word, semicolon, opening, closing, misplaced, end}
 
 -- a fault's line and its kind
 pub record Fault : Type 0 where
@@ -11,22 +9,22 @@ pub record Fault : Type 0 where
 
 -- What is wrong with a lexeme where some blocks are open, and words of a directive are pending or not.
 abbrev pub kind_at : ℕ → Bool → Lexeme → Option ℕ
-kind_at blocks pending (Word w) = None
-kind_at blocks pending Semicolon = if pending then None else Some 3
-kind_at blocks pending Opening = if pending then (if nat_lt blocks 16 then None else Some 7) else Some 4
-kind_at blocks pending Closing = if pending || blocks == 0 then Some 5 else None
-kind_at blocks pending Misplaced = Some 6
-kind_at blocks pending End = if pending || nat_lt 0 blocks then Some 2 else None
+kind_at blocks pending (word w) = None
+kind_at blocks pending semicolon = if pending then None else Some 3
+kind_at blocks pending opening = if pending then (if nat_lt blocks 16 then None else Some 7) else Some 4
+kind_at blocks pending closing = if pending || blocks == 0 then Some 5 else None
+kind_at blocks pending misplaced = Some 6
+kind_at blocks pending end = if pending || nat_lt 0 blocks then Some 2 else None
 
 -- the number of open blocks after a lexeme
 abbrev pub blocks_after : ℕ → Lexeme → ℕ
-blocks_after blocks Opening = blocks + 1
-blocks_after blocks Closing = blocks - 1
+blocks_after blocks opening = blocks + 1
+blocks_after blocks closing = blocks - 1
 blocks_after blocks _ = blocks
 
 -- words are pending after a word
 abbrev pub is_word : Lexeme → Bool
-is_word (Word w) = true
+is_word (word w) = true
 is_word _ = false
 
 -- the first fault of the tokens from here on

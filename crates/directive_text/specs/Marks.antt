@@ -1,8 +1,6 @@
 -- A tree written out flat, as what its text says in order.
 use Rattle.std.specs.Prelude.{ℕ, Bool, List, [], ◌∷◌, ◌++◌, Option, None, Some, map, if◌then◌else◌}
-use Rattle.directive_text.specs.declared.token.Token.{Token}
-use Rattle.directive_text.specs.declared.token.Lexeme.{Lexeme}
-use Rattle.directive_text.specs.declared.token.Lexeme.TheVariants.{Word, Semicolon, Opening, Closing, Misplaced, End}
+use Rattle.directive_text.specs.Lexemes.{Token, Lexeme, word, semicolon, opening, closing, misplaced, end}
 use Rattle.directive_text.specs.Faults.{is_word}
 use Rattle.directive_text.specs.declared.tree.Directive.{Directive}
 use Rattle.directive_text.specs.declared.tree.Directive.TheOpen.{Directive-F}
@@ -40,12 +38,12 @@ marks_of ds = joined (map directive_marks ds)
 
 -- the marks of one lexeme on a line
 abbrev pub lexeme_marks : Bool → ℕ → Lexeme → List Mark
-lexeme_marks pending line (Word w) = if pending then has w ∷ [] else begins line ∷ has w ∷ []
-lexeme_marks pending line Semicolon = ended ∷ []
-lexeme_marks pending line Opening = opened ∷ []
-lexeme_marks pending line Closing = closed ∷ []
-lexeme_marks pending line Misplaced = []
-lexeme_marks pending line End = []
+lexeme_marks pending line (word w) = if pending then has w ∷ [] else begins line ∷ has w ∷ []
+lexeme_marks pending line semicolon = ended ∷ []
+lexeme_marks pending line opening = opened ∷ []
+lexeme_marks pending line closing = closed ∷ []
+lexeme_marks pending line misplaced = []
+lexeme_marks pending line end = []
 
 -- the marks of tokens: a directive begins at a word where none is pending
 abbrev pub token_marks : Bool → List Token → List Mark

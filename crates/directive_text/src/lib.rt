@@ -3,15 +3,16 @@
 
 mod builder;
 mod bytes;
-pub mod fault;
-pub mod laws;
+mod fault;
+mod laws;
 mod reader;
 mod scanner;
-mod token;
-pub mod tree;
+mod symbol;
+mod tree;
 
 pub use builder::MAX_BLOCKS;
 pub use fault::TextFault;
+pub use laws::{printed_reads_back, spelled_fits};
 pub use reader::read;
 pub use tree::{Directive, Tree};
 

@@ -1,12 +1,12 @@
 ghost use Rattle.std.specs.Prelude.{◌≡◌, List, MatchResult};
 ghost use Rattle.directive_text.specs.Reading.{ReadsFault, Spells};
-ghost use Rattle.directive_text.specs.Steps.{is_end};
+ghost use Rattle.directive_text.specs.Internals.Steps.{is_end, lexeme_of};
 ghost use Rattle.directive_text.specs.declared.tree.Directive.{Directive};
 
 use crate::builder::Builder;
 use crate::fault::TextFault;
 use crate::scanner::Scanner;
-use crate::token::Lexeme;
+use crate::symbol::Symbol;
 use crate::tree::Tree;
 use std::alloc::Global;
 
@@ -26,23 +26,23 @@ pub fn read(alloc: Global, text: &[u8]) -> Result<Tree, TextFault>
     let mut scanner = Scanner::new(text);
     let mut builder = Builder::new(alloc);
     'tokens: loop {
-        let token = scanner.next(alloc)?;
-        if let Some(kind) = builder.kind_of(&token.lexeme) {
+        let next = scanner.next(alloc)?;
+        if let Some(kind) = builder.kind_of(&next.symbol) {
             return Err(TextFault::At {
-                line: token.line,
+                line: next.line,
                 kind,
             });
         }
-        if is_end(&token.lexeme) {
+        if is_end(&next.symbol) {
             return Ok(builder.finish());
         }
-        builder.add(alloc, token)?;
+        builder.add(alloc, next)?;
     }
 }
 
-/// Whether a lexeme is the end of the text.
-fn is_end(lexeme: &Lexeme) -> bool
-    ensures { result ≡ is_end lexeme.now }
+/// Whether a symbol is the end of the text.
+fn is_end(symbol: &Symbol) -> bool
+    ensures { result ≡ is_end (lexeme_of symbol.now) }
 {
-    matches!(lexeme, Lexeme::End)
+    matches!(symbol, Symbol::End)
 }

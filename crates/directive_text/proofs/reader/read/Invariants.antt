@@ -2,7 +2,7 @@ use Rattle.std.proofs.Common.{◌≡◌, ◌++◌, false, length}
 use Rattle.directive_text.specs.Faults.{first_fault}
 use Rattle.directive_text.specs.Marks.{token_marks}
 use Rattle.directive_text.specs.Lexemes.{tokens_of}
-use Rattle.directive_text.specs.Steps.{ahead}
+use Rattle.directive_text.specs.Internals.Steps.{ahead}
 use Rattle.directive_text.specs.Reading.{fault_of}
 use Rattle.directive_text.proofs.reader.read.Given as goal
 
