@@ -1,4 +1,4 @@
-ghost use Rattle.std.specs.Prelude.{◌≡◌, ◌<◌, ◌+◌, ◌-◌, true, false, [], ◌∷◌, ◌++◌, OnOk};
+ghost use Rattle.std.specs.Prelude.{◌≡◌, ◌<◌, ◌+◌, ◌-◌, true, false, [], ◌∷◌, ◌++◌, IfOk, OnOk};
 ghost use Rattle.directive_text.specs.Marks.{ended, opened, closed, marks_of, lexeme_marks};
 ghost use Rattle.directive_text.specs.Faults.{kind_at, blocks_after, is_word};
 ghost use Rattle.directive_text.specs.Internals.Progress.{Progress, some_word};
@@ -41,13 +41,14 @@ impl Model for Builder {
     ghost view = { λ b. progress_of b.open.items b.done.items b.line b.words.items };
 }
 
-/// A list in a block of just its size.
-fn exactly<T>(items: Vec<T>) -> Items<T>
-    ensures { result ≡ items.items }
+/// Moves items into a list that takes just the room of these.
+fn exactly<T: Drop>(alloc: Global, items: &mut Vec<T>) -> Result<Items<T>, NoMemory>
+    ensures same { IfOk result (λ moved. moved ≡ items.old.items) }
+    ensures rest { OnOk result (items.new.items ≡ []) }
 {
-    let mut items = items;
-    items.shrink_to_fit();
-    Items::from_vec(items)
+    let mut moved = Vec::with_capacity(alloc, items.len())?;
+    moved.append(items)?;
+    Ok(Items::from_vec(moved))
 }
 
 /// Whether there is a word.
@@ -128,9 +129,9 @@ impl Builder {
               pending = false;
             }) }
     {
-        let words = replace(&mut self.words, Vec::new(alloc));
+        let words = exactly(alloc, &mut self.words)?;
         self.done.push(Directive {
-            words: exactly(words),
+            words,
             line: self.line,
             block: None,
         })?;
@@ -148,7 +149,7 @@ impl Builder {
             }) }
     {
         let before = replace(&mut self.done, Vec::new(alloc));
-        let words = exactly(replace(&mut self.words, Vec::new(alloc)));
+        let words = exactly(alloc, &mut self.words)?;
         let line = self.line;
         self.open.push(Frame {
             before,
@@ -159,7 +160,7 @@ impl Builder {
     }
 
     /// `}` is read.
-    fn close(&mut self) -> Result<(), NoMemory>
+    fn close(&mut self, alloc: Global) -> Result<(), NoMemory>
         requires pending { self.old.pending ≡ false }
         requires blocks { 0 < self.old.blocks }
         ensures { OnOk result (self.new
@@ -175,7 +176,8 @@ impl Builder {
                 words,
                 line,
             } = frame;
-            let block = Some(exactly(replace(&mut self.done, before)));
+            let mut inner = replace(&mut self.done, before);
+            let block = Some(exactly(alloc, &mut inner)?);
             self.done.push(Directive { words, line, block })?;
         }
         Ok(())
@@ -192,7 +194,7 @@ impl Builder {
             Symbol::Word(value) => self.word(line, value),
             Symbol::Semicolon => self.end(alloc),
             Symbol::Opening => self.open(alloc),
-            Symbol::Closing => self.close(),
+            Symbol::Closing => self.close(alloc),
             Symbol::Misplaced | Symbol::End => Ok(()),
         }
     }
@@ -203,8 +205,10 @@ impl Builder {
         requires pending { self.pending ≡ false }
         ensures { marks_of result.directives ≡ self.marks }
     {
+        let mut directives = self.done;
+        directives.shrink_to_fit();
         Tree {
-            directives: exactly(self.done),
+            directives: Items::from_vec(directives),
         }
     }
 }

@@ -189,8 +189,7 @@ impl<'t> Scanner<'t> {
         self.pass(quote);
         let mut value = Vec::new(alloc);
         self.quoted_word(&mut value, quote)?;
-        value.shrink_to_fit();
-        Ok(Symbol::Word(Text::from_vec(value)))
+        Ok(Symbol::Word(Text::of(alloc, &value)?))
     }
 
     /// The plain word that begins here.
@@ -209,8 +208,7 @@ impl<'t> Scanner<'t> {
         let mut value = Vec::new(alloc);
         let dollar = self.plain_byte(&mut value, false, byte)?;
         self.plain_word(&mut value, dollar)?;
-        value.shrink_to_fit();
-        Ok(Symbol::Word(Text::from_vec(value)))
+        Ok(Symbol::Word(Text::of(alloc, &value)?))
     }
 
     /// The symbol that begins with this byte.

@@ -6,5 +6,5 @@ use Rattle.directive_text.proofs.builder.Builder.close.Goals as goal
 pub returns-in_ok-push : goal.returns-in_ok-push
 returns-in_ok-push c =
     let pending = subst (λ (n : Progress). n.pending ≡ false) (sym c.self.view_is) c.requires.pending in
-    rw (c.in_ok-push.ensures.items, c.exactly.ensures, c.replace.ensures.value, c.replace.ensures.after, ← c.self.view_is, c.in-Some.ensures.items)
+    rw (c.in_ok-push.ensures.items, c.in_ok-exactly.ensures.same, c.replace-inner.ensures.value, c.replace-inner.ensures.after, ← c.self.view_is, c.in-Some.ensures.items)
     (progress-close c.pop.new.self.items c.in-Some.frame c.self.inside.done.items c.self.inside.line c.self.inside.words.items pending)

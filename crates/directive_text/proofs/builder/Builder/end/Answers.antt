@@ -6,5 +6,5 @@ use Rattle.directive_text.proofs.builder.Builder.end.Goals as goal
 pub returns : goal.returns
 returns c =
     let pending = subst (λ (n : Progress). n.pending ≡ true) (sym c.self.view_is) c.requires in
-    rw (c.in_ok-push.ensures.items, c.exactly.ensures, c.replace-words.ensures.value, c.replace-words.ensures.after, c.new.ensures.items, ← c.self.view_is)
+    rw (c.in_ok-push.ensures.items, c.in_ok-words.ensures.same, c.in_ok-words.ensures.rest, ← c.self.view_is)
     (progress-end c.self.inside.open.items c.self.inside.done.items c.self.inside.line c.self.inside.words.items pending)

@@ -6,5 +6,5 @@ use Rattle.directive_text.proofs.builder.Builder.open.Goals as goal
 pub returns : goal.returns
 returns c =
     let pending = subst (λ (n : Progress). n.pending ≡ true) (sym c.self.view_is) c.requires in
-    rw (c.in_ok-push.ensures.items, c.replace-before.ensures.value, c.replace-before.ensures.after, c.new.ensures.items, c.exactly-words.ensures, c.replace.ensures.value, c.replace.ensures.after, c.new-2.ensures.items, ← c.self.view_is)
+    rw (c.in_ok-push.ensures.items, c.replace-before.ensures.value, c.replace-before.ensures.after, c.new.ensures.items, c.in_ok-words.ensures.same, c.in_ok-words.ensures.rest, ← c.self.view_is)
     (progress-open c.self.inside.open.items _ c.self.inside.line pending)
