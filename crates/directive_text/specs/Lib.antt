@@ -4,4 +4,5 @@ pub mod Faults
 pub mod Marks
 pub mod Reading
 pub mod Printing
+pub mod Spelling
 pub mod Internals

@@ -1,7 +1,28 @@
-ghost use Rattle.std.specs.Prelude.{ℕ, List};
+ghost use Rattle.std.specs.Prelude.{◌≡◌, ◌≢◌, ◌+◌, ◌++◌, ℕ, List, Some};
 ghost use Rattle.directive_text.specs.declared.tree.Directive.{Directive};
+ghost use Rattle.directive_text.specs.Faults.{Fault};
 ghost use Rattle.directive_text.specs.Printing.{printed, Fits};
-ghost use Rattle.directive_text.specs.Reading.{Spells};
+ghost use Rattle.directive_text.specs.Reading.{Spells, fault_of};
+ghost use Rattle.directive_text.specs.Spelling.{Spelled, line_feeds};
+
+/// Each spelling of a tree reads as that tree: its words plain or in quotes, with any escapes, and any white
+/// space and comments between them.
+pub fn spellings_read()
+    ensures { (text : List ℕ) (directives : List Directive) → Spelled text directives
+        → Spells text directives }
+{}
+
+/// A fault that isn't the end of the text (kind 2) is the same whatever follows.
+pub fn faults_stay()
+    ensures { (text more : List ℕ) (fault : Fault) → fault_of text ≡ Some fault → fault.kind ≢ 2
+        → fault_of (text ++ more) ≡ Some fault }
+{}
+
+/// Where a text ends too early (kind 2), the fault's line is its last: 1 and the number of its LFs.
+pub fn end_is_on_the_last_line()
+    ensures { (text : List ℕ) (fault : Fault) → fault_of text ≡ Some fault → fault.kind ≡ 2
+        → fault.line ≡ 1 + line_feeds text }
+{}
 
 /// The canonical text of a tree spells the tree: each directive has its words and its line again. So `read`
 /// gives it, unless memory runs out.

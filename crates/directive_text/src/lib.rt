@@ -12,7 +12,9 @@ mod tree;
 
 pub use builder::MAX_BLOCKS;
 pub use fault::TextFault;
-pub use laws::{printed_reads_back, spelled_fits};
+pub use laws::{
+    end_is_on_the_last_line, faults_stay, printed_reads_back, spelled_fits, spellings_read,
+};
 pub use reader::read;
 pub use tree::{Directive, Tree};
 
