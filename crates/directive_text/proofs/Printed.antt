@@ -181,15 +181,15 @@ read-all (d ∷ ds) blocks line ms f =
     }
 
 -- the bytes that end a directive or a block
-semicolon-read : (line : ℕ) (y : List ℕ) → between line (59 ∷ y) ≡ record { line = line; lexeme = semicolon } ∷ between line y
+pub semicolon-read : (line : ℕ) (y : List ℕ) → between line (59 ∷ y) ≡ record { line = line; lexeme = semicolon } ∷ between line y
 unfolding is_blank
 semicolon-read line y = refl
 
-opening-read : (line : ℕ) (y : List ℕ) → between line (123 ∷ y) ≡ record { line = line; lexeme = opening } ∷ between line y
+pub opening-read : (line : ℕ) (y : List ℕ) → between line (123 ∷ y) ≡ record { line = line; lexeme = opening } ∷ between line y
 unfolding is_blank
 opening-read line y = refl
 
-closing-read : (line : ℕ) (y : List ℕ) → between line (125 ∷ y) ≡ record { line = line; lexeme = closing } ∷ between line y
+pub closing-read : (line : ℕ) (y : List ℕ) → between line (125 ∷ y) ≡ record { line = line; lexeme = closing } ∷ between line y
 unfolding is_blank
 closing-read line y = refl
 
@@ -199,7 +199,7 @@ passed-fault blocks pending t ts e =
     let next : Option Fault = first_fault (blocks_after blocks t.lexeme) (is_word t.lexeme) ts in
     subst (λ (k : Option ℕ). elim k as (λ _. Option Fault) [ Some kind ↦ Some (record { line = t.line; kind = kind }) | None ↦ next ] ≡ next) (sym e) refl
 
-opening-fault : (blocks line : ℕ) (ts : List Token) → blocks < 16 → first_fault blocks true (record { line = line; lexeme = opening } ∷ ts) ≡ first_fault (blocks + 1) false ts
+pub opening-fault : (blocks line : ℕ) (ts : List Token) → blocks < 16 → first_fault blocks true (record { line = line; lexeme = opening } ∷ ts) ≡ first_fault (blocks + 1) false ts
 opening-fault blocks line ts h = passed-fault blocks true (record { line = line; lexeme = opening }) ts (rw (lt-ltb blocks 16 h) refl)
 
 one_less : (blocks : ℕ) → blocks + 1 - 1 ≡ blocks
@@ -208,7 +208,7 @@ one_less blocks = omega arith
 some_block : (blocks : ℕ) → blocks + 1 ≢ 0
 some_block blocks e = omega arith
 
-closing-fault : (blocks line : ℕ) (ts : List Token) → first_fault (blocks + 1) false (record { line = line; lexeme = closing } ∷ ts) ≡ first_fault blocks false ts
+pub closing-fault : (blocks line : ℕ) (ts : List Token) → first_fault (blocks + 1) false (record { line = line; lexeme = closing } ∷ ts) ≡ first_fault blocks false ts
 closing-fault blocks line ts =
     passed-fault (blocks + 1) false (record { line = line; lexeme = closing }) ts (rw (ne_eqb (blocks + 1) 0 (some_block blocks)) refl)
     ∙ ap (λ b. first_fault b false ts) (one_less blocks)
