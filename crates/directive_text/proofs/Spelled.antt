@@ -6,7 +6,7 @@ use Rattle.std.proofs.lemmas.Bool.{eqb-true}
 use Rattle.std.proofs.lemmas.List.Sums.{sum_by-cons, sum_by-append}
 use Rattle.directive_text.specs.declared.tree.Directive.{Directive}
 use Rattle.directive_text.specs.Bytes.{is_blank, is_quote, may_follow, below, unescaped, ends_plain}
-use Rattle.directive_text.specs.Lexemes.{word, kept, ends, word_at, followed, between, comment, plain, plain_pair, quoted, quoted_pair}
+use Rattle.directive_text.specs.Lexemes.{word, end, kept, ends, word_at, followed, between, comment, plain, plain_pair, quoted, quoted_pair}
 use Rattle.directive_text.specs.Faults.{first_fault}
 use Rattle.directive_text.specs.Marks.{Mark, begins, has, ended, opened, closed, directive_marks, marks_of, token_marks}
 use Rattle.directive_text.specs.Reading.{Spells}
@@ -137,3 +137,152 @@ word-read {next} (spelling.quoted quote pieces q s f) line more =
     ∙ ap (word_at line) (quoted-read quote pieces q s line (next ∷ more))
     ∙ ap (λ v. record { line = line; lexeme = word v } ∷ followed behind (next ∷ more) (between behind (next ∷ more))) (append-nil (flat_map piece_value pieces))
     ∙ ap (λ ts. record { line = line; lexeme = word (flat_map piece_value pieces) } ∷ ts) (followed-read next behind more f ∙ ap (λ l. between l (next ∷ more)) (quoted-feeds quote line text q))
+
+-- In front of more, a text has these marks and no fault: from some open blocks to others, and from words that are pending, or not, to others.
+record Goes (blocks : ℕ) (pending : Bool) (line : ℕ) (text : List ℕ) (ms : List Mark) (blocks_behind : ℕ) (pending_behind : Bool) (more : List ℕ) : Type 0 where
+  marks : token_marks pending (between line (text ++ more)) ≡ ms ++ token_marks pending_behind (between (line + line_feeds text) more)
+  faults : first_fault blocks pending (between line (text ++ more)) ≡ first_fault blocks_behind pending_behind (between (line + line_feeds text) more)
+
+-- one text after the other
+joined : {b b' b'' line : ℕ} {p p' p'' : Bool} {t t' more : List ℕ} {ms ms' : List Mark} →
+    Goes b p line t ms b' p' (t' ++ more) → Goes b' p' (line + line_feeds t) t' ms' b'' p'' more → Goes b p line (t ++ t') (ms ++ ms') b'' p'' more
+joined {b} {b'} {b''} {line} {p} {p'} {p''} {t} {t'} {more} {ms} {ms'} x y =
+    let lines = feeds-append line t t' in
+    record {
+      marks =
+          ap (λ z. token_marks p (between line z)) (append_assoc t t' more) ∙ x.marks
+          ∙ ap (λ k. ms ++ k) (y.marks ∙ ap (λ l. ms' ++ token_marks p'' (between l more)) lines)
+          ∙ sym (append_assoc ms ms' (token_marks p'' (between (line + line_feeds (t ++ t')) more)));
+      faults =
+          ap (λ z. first_fault b p (between line z)) (append_assoc t t' more) ∙ x.faults ∙ y.faults
+          ∙ ap (λ l. first_fault b'' p'' (between l more)) lines;
+    }
+
+-- on an equal line
+at_line : {b b' line line' : ℕ} {p p' : Bool} {t more : List ℕ} {ms : List Mark} → line ≡ line' → Goes b p line t ms b' p' more → Goes b p line' t ms b' p' more
+at_line {b} {b'} {line} {line'} {p} {p'} {t} {more} {ms} e x = subst (λ l. Goes b p l t ms b' p' more) e x
+
+-- with equal marks
+with_marks : {b b' line : ℕ} {p p' : Bool} {t more : List ℕ} {ms ms' : List Mark} → ms ≡ ms' → Goes b p line t ms b' p' more → Goes b p line t ms' b' p' more
+with_marks {b} {b'} {line} {p} {p'} {t} {more} {ms} {ms'} e x = subst (λ k. Goes b p line t k b' p' more) e x
+
+-- in front of an equal text
+before : {b b' line : ℕ} {p p' : Bool} {t more more' : List ℕ} {ms : List Mark} → more ≡ more' → Goes b p line t ms b' p' more → Goes b p line t ms b' p' more'
+before {b} {b'} {line} {p} {p'} {t} {more} {more'} {ms} e x = subst (λ k. Goes b p line t ms b' p' k) e x
+
+gap-goes : {gap : List ℕ} → GapText gap → (b line : ℕ) (p : Bool) (more : List ℕ) → Goes b p line gap [] b p more
+gap-goes g b line p more = record {
+  marks = ap (token_marks p) (gap-read g line more);
+  faults = ap (first_fault b p) (gap-read g line more);
+}
+
+first_word-goes : {next : ℕ} {value text : List ℕ} → WordText next value text → (b line : ℕ) (more : List ℕ) → Goes b false line text (begins line ∷ has value ∷ []) b true (next ∷ more)
+first_word-goes w b line more = record {
+  marks = ap (token_marks false) (word-read w line more);
+  faults = ap (first_fault b false) (word-read w line more);
+}
+
+word-goes : {next : ℕ} {value text : List ℕ} → WordText next value text → (b line : ℕ) (more : List ℕ) → Goes b true line text (has value ∷ []) b true (next ∷ more)
+word-goes w b line more = record {
+  marks = ap (token_marks true) (word-read w line more);
+  faults = ap (first_fault b true) (word-read w line more);
+}
+
+-- what a text in front of a byte begins with
+tail_of : List ℕ → ℕ → List ℕ → List ℕ
+tail_of [] next more = more
+tail_of (b ∷ bs) next more = bs ++ next ∷ more
+
+begins_with : (bs : List ℕ) (next : ℕ) (more : List ℕ) → first bs next ∷ tail_of bs next more ≡ bs ++ next ∷ more
+unfolding tail_of
+begins_with [] next more = refl
+begins_with (b ∷ bs) next more = refl
+
+ahead_of : (gap rest : List ℕ) (next : ℕ) (more : List ℕ) → first (gap ++ rest) next ∷ tail_of (gap ++ rest) next more ≡ gap ++ (rest ++ next ∷ more)
+ahead_of gap rest next more = begins_with (gap ++ rest) next more ∙ append_assoc gap rest (next ∷ more)
+
+words-goes : {next : ℕ} {words : List (List ℕ)} {text : List ℕ} → WordsText next words text → (b line : ℕ) (more : List ℕ) → Goes b true line text (map has words) b true (next ∷ more)
+words-goes {next} no_word b line more = record {
+  marks = ap (λ l. token_marks true (between l (next ∷ more))) (sym (add-zero line));
+  faults = ap (λ l. first_fault b true (between l (next ∷ more))) (sym (add-zero line));
+}
+words-goes {next} (one_word value words text gap rest w g ws) b line more =
+    joined (joined (before (ahead_of gap rest next more) (word-goes w b line (tail_of (gap ++ rest) next more))) (gap-goes g b (line + line_feeds text) true (rest ++ next ∷ more)))
+    (words-goes ws b (line + line_feeds (text ++ gap)) more)
+
+head-goes : {next : ℕ} {words : List (List ℕ)} {text : List ℕ} → words ≢ [] → WordsText next words text → (b line : ℕ) (more : List ℕ) → Goes b false line text (begins line ∷ map has words) b true (next ∷ more)
+head-goes {next} some no_word b line more = absurd (some refl)
+head-goes {next} some (one_word value words text gap rest w g ws) b line more =
+    joined (joined (before (ahead_of gap rest next more) (first_word-goes w b line (tail_of (gap ++ rest) next more))) (gap-goes g b (line + line_feeds text) true (rest ++ next ∷ more)))
+    (words-goes ws b (line + line_feeds (text ++ gap)) more)
+
+-- one byte that isn't LF leaves the line
+byte_line : (line b : ℕ) → below line b ≡ line → line ≡ line + line_feeds (b ∷ [])
+byte_line line b e = sym (add-zero line) ∙ feeds-same line b [] e
+
+semicolon-goes : (b line : ℕ) (more : List ℕ) → Goes b true line (59 ∷ []) (ended ∷ []) b false more
+semicolon-goes b line more =
+    let l = byte_line line 59 (other_ends_no_line line 59 refl) in
+    record {
+      marks = ap (token_marks true) (semicolon-read line more) ∙ ap (λ n. ended ∷ token_marks false (between n more)) l;
+      faults = ap (first_fault b true) (semicolon-read line more) ∙ ap (λ n. first_fault b false (between n more)) l;
+    }
+
+opening-goes : (b line : ℕ) (more : List ℕ) → b < 16 → Goes b true line (123 ∷ []) (opened ∷ []) (b + 1) false more
+opening-goes b line more few =
+    let l = byte_line line 123 (other_ends_no_line line 123 refl) in
+    record {
+      marks = ap (token_marks true) (opening-read line more) ∙ ap (λ n. opened ∷ token_marks false (between n more)) l;
+      faults =
+          ap (first_fault b true) (opening-read line more) ∙ opening-fault b line (between line more) few
+          ∙ ap (λ n. first_fault (b + 1) false (between n more)) l;
+    }
+
+closing-goes : (b line : ℕ) (more : List ℕ) → Goes (b + 1) false line (125 ∷ []) (closed ∷ []) b false more
+closing-goes b line more =
+    let l = byte_line line 125 (other_ends_no_line line 125 refl) in
+    record {
+      marks = ap (token_marks false) (closing-read line more) ∙ ap (λ n. closed ∷ token_marks false (between n more)) l;
+      faults =
+          ap (first_fault (b + 1) false) (closing-read line more) ∙ closing-fault b line (between line more)
+          ∙ ap (λ n. first_fault b false (between n more)) l;
+    }
+
+mutual
+  directive-goes : {b line : ℕ} {d : Directive} {text : List ℕ} → DirectiveText b line d text → (more : List ℕ) → Goes b false line text (directive_marks d) b false more
+  directive-goes (simple b line words text some ws) more =
+      with_marks (sym (marks-ended words line))
+      (joined (head-goes some ws b line more) (semicolon-goes b (line + line_feeds text) more))
+  directive-goes (block b line words text ds inner some ws few is) more =
+      let behind = line + line_feeds text in
+      let l = byte_line behind 123 (other_ends_no_line behind 123 refl) in
+      with_marks (append_assoc (begins line ∷ map has words) (opened ∷ marks_of ds) (closed ∷ []) ∙ sym (marks-block words line ds))
+      (joined
+      (joined (head-goes some ws b line (inner ++ 125 ∷ more))
+      (joined (opening-goes b behind (inner ++ 125 ∷ more) few) (at_line l (directives-goes is (125 ∷ more)))))
+      (closing-goes b (line + line_feeds (text ++ 123 ∷ inner)) more))
+
+  directives-goes : {b line : ℕ} {ds : List Directive} {text : List ℕ} → DirectivesText b line ds text → (more : List ℕ) → Goes b false line text (marks_of ds) b false more
+  directives-goes (no_directive b line gap g) more = gap-goes g b line false more
+  directives-goes (one_directive b line d ds gap text rest g one ds_text) more =
+      joined (joined (gap-goes g b line false (text ++ (rest ++ more))) (directive-goes one (rest ++ more))) (directives-goes ds_text more)
+
+-- a comment without LF is the last
+last_comment : (said : List ℕ) (line : ℕ) → line_feeds said ≡ 0 → comment line said ≡ record { line = line; lexeme = end } ∷ []
+last_comment [] line e = refl
+last_comment (b ∷ bs) line e = let h = no_feed b bs e in rw h.0 (last_comment bs line h.1)
+
+pub spelled-spells : (text : List ℕ) (ds : List Directive) → Spelled text ds → Spells text ds
+spelled-spells _ ds (whole text _ is) =
+    let g = directives-goes is [] in
+    record {
+      sound = ap (λ t. first_fault 0 false (between 1 t)) (sym (append-nil text)) ∙ g.faults;
+      marks = ap (λ t. token_marks false (between 1 t)) (sym (append-nil text)) ∙ g.marks ∙ append-nil (marks_of ds);
+    }
+spelled-spells _ ds (in_comment text said _ is e) =
+    let g = directives-goes is (35 ∷ said) in
+    let c = between-hash (1 + line_feeds text) said ∙ last_comment said (1 + line_feeds text) e in
+    record {
+      sound = g.faults ∙ ap (first_fault 0 false) c;
+      marks = g.marks ∙ ap (λ ts. marks_of ds ++ token_marks false ts) c ∙ append-nil (marks_of ds);
+    }

@@ -1,5 +1,5 @@
-use Rattle.directive_text.proofs.Spelled.{gap-read, word-read}
+use Rattle.directive_text.proofs.Spelled.{spelled-spells}
 use Rattle.directive_text.proofs.laws.spellings_read.Goals as goal
 
 pub returns : goal.returns
-returns c = ?
+returns c = spelled-spells
