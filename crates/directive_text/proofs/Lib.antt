@@ -1,5 +1,6 @@
 pub mod Fitting
 pub mod LastLine
+pub mod Parsed
 pub mod Places
 pub mod Printed
 pub mod Spelled

@@ -109,7 +109,7 @@ begins-read next (itself b ∷ pieces) h e line more =
     between-plain line b (flat_map piece_text pieces ++ more) l.0 n.0 n.1 m.1
 begins-read next (escaped b ∷ pieces) h e line more = between-backslash line (b ∷ flat_map piece_text pieces ++ more)
 
-quote-read : (quote line : ℕ) (z : List ℕ) → is_quote quote ≡ true → between line (quote ∷ z) ≡ word_at line (quoted quote line z)
+pub quote-read : (quote line : ℕ) (z : List ℕ) → is_quote quote ≡ true → between line (quote ∷ z) ≡ word_at line (quoted quote line z)
 quote-read quote line z q =
     between-quote {left_after = z} (record { bytes = refl; lines = refl }) q ∙ ap (λ l. word_at line (quoted quote l z)) (quote_ends_no_line line quote q)
 
@@ -139,9 +139,9 @@ word-read {next} (spelling.quoted quote pieces q s f) line more =
     ∙ ap (λ ts. record { line = line; lexeme = word (flat_map piece_value pieces) } ∷ ts) (followed-read next behind more f ∙ ap (λ l. between l (next ∷ more)) (quoted-feeds quote line text q))
 
 -- In front of more, a text has these marks and no fault: from some open blocks to others, and from words that are pending, or not, to others.
-record Goes (blocks : ℕ) (pending : Bool) (line : ℕ) (text : List ℕ) (ms : List Mark) (blocks_behind : ℕ) (pending_behind : Bool) (more : List ℕ) : Type 0 where
-  marks : token_marks pending (between line (text ++ more)) ≡ ms ++ token_marks pending_behind (between (line + line_feeds text) more)
-  faults : first_fault blocks pending (between line (text ++ more)) ≡ first_fault blocks_behind pending_behind (between (line + line_feeds text) more)
+pub record Goes (blocks : ℕ) (pending : Bool) (line : ℕ) (text : List ℕ) (ms : List Mark) (blocks_behind : ℕ) (pending_behind : Bool) (more : List ℕ) : Type 0 where
+  pub marks : token_marks pending (between line (text ++ more)) ≡ ms ++ token_marks pending_behind (between (line + line_feeds text) more)
+  pub faults : first_fault blocks pending (between line (text ++ more)) ≡ first_fault blocks_behind pending_behind (between (line + line_feeds text) more)
 
 -- one text after the other
 joined : {b b' b'' line : ℕ} {p p' p'' : Bool} {t t' more : List ℕ} {ms ms' : List Mark} →
@@ -189,7 +189,7 @@ word-goes w b line more = record {
 }
 
 -- what a text in front of a byte begins with
-tail_of : List ℕ → ℕ → List ℕ → List ℕ
+pub tail_of : List ℕ → ℕ → List ℕ → List ℕ
 tail_of [] next more = more
 tail_of (b ∷ bs) next more = bs ++ next ∷ more
 
@@ -198,7 +198,7 @@ unfolding tail_of
 begins_with [] next more = refl
 begins_with (b ∷ bs) next more = refl
 
-ahead_of : (gap rest : List ℕ) (next : ℕ) (more : List ℕ) → first (gap ++ rest) next ∷ tail_of (gap ++ rest) next more ≡ gap ++ (rest ++ next ∷ more)
+pub ahead_of : (gap rest : List ℕ) (next : ℕ) (more : List ℕ) → first (gap ++ rest) next ∷ tail_of (gap ++ rest) next more ≡ gap ++ (rest ++ next ∷ more)
 ahead_of gap rest next more = begins_with (gap ++ rest) next more ∙ append_assoc gap rest (next ∷ more)
 
 words-goes : {next : ℕ} {words : List (List ℕ)} {text : List ℕ} → WordsText next words text → (b line : ℕ) (more : List ℕ) → Goes b true line text (map has words) b true (next ∷ more)
@@ -249,7 +249,7 @@ closing-goes b line more =
     }
 
 mutual
-  directive-goes : {b line : ℕ} {d : Directive} {text : List ℕ} → DirectiveText b line d text → (more : List ℕ) → Goes b false line text (directive_marks d) b false more
+  pub directive-goes : {b line : ℕ} {d : Directive} {text : List ℕ} → DirectiveText b line d text → (more : List ℕ) → Goes b false line text (directive_marks d) b false more
   directive-goes (simple b line words text some ws) more =
       with_marks (sym (marks-ended words line))
       (joined (head-goes some ws b line more) (semicolon-goes b (line + line_feeds text) more))
@@ -262,7 +262,7 @@ mutual
       (joined (opening-goes b behind (inner ++ 125 ∷ more) few) (at_line l (directives-goes is (125 ∷ more)))))
       (closing-goes b (line + line_feeds (text ++ 123 ∷ inner)) more))
 
-  directives-goes : {b line : ℕ} {ds : List Directive} {text : List ℕ} → DirectivesText b line ds text → (more : List ℕ) → Goes b false line text (marks_of ds) b false more
+  pub directives-goes : {b line : ℕ} {ds : List Directive} {text : List ℕ} → DirectivesText b line ds text → (more : List ℕ) → Goes b false line text (marks_of ds) b false more
   directives-goes (no_directive b line gap g) more = gap-goes g b line false more
   directives-goes (one_directive b line d ds gap text rest g one ds_text) more =
       joined (joined (gap-goes g b line false (text ++ (rest ++ more))) (directive-goes one (rest ++ more))) (directives-goes ds_text more)

@@ -1,4 +1,4 @@
-ghost use Rattle.std.specs.Prelude.{◌≡◌, ◌≢◌, ◌+◌, ◌++◌, ℕ, List, Some};
+ghost use Rattle.std.specs.Prelude.{◌≡◌, ◌≢◌, ◌+◌, ◌++◌, ℕ, List, None, Some};
 ghost use Rattle.directive_text.specs.declared.tree.Directive.{Directive};
 ghost use Rattle.directive_text.specs.Faults.{Fault};
 ghost use Rattle.directive_text.specs.Printing.{printed, Fits};
@@ -10,6 +10,12 @@ ghost use Rattle.directive_text.specs.Spelling.{Spelled, line_feeds};
 pub fn spellings_read()
     ensures { (text : List ℕ) (directives : List Directive) → Spelled text directives
         → Spells text directives }
+{}
+
+/// A text without a fault is a spelling of a tree. So `Spelled` is all that is read.
+pub fn sound_texts_are_spellings()
+    ensures { (text : List ℕ) → fault_of text ≡ None
+        → (directives : List Directive) × Spelled text directives }
 {}
 
 /// A fault that isn't the end of the text (kind 2) is the same whatever follows.
