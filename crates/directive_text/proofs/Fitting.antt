@@ -81,7 +81,7 @@ mutual
   quoted_pair-rises quote line (b ∷ bs) = earlier line (below line b) _ (below-rises line b) (quoted-rises quote (below line b) bs)
 
 -- where nothing is wrong from a token on, nothing is wrong with it, nor behind it
-no-fault : (blocks : ℕ) (pending : Bool) (t : Token) (ts : List Token) → first_fault blocks pending (t ∷ ts) ≡ None →
+pub no-fault : (blocks : ℕ) (pending : Bool) (t : Token) (ts : List Token) → first_fault blocks pending (t ∷ ts) ≡ None →
     (kind_at blocks pending t.lexeme ≡ None) × (first_fault (blocks_after blocks t.lexeme) (is_word t.lexeme) ts ≡ None)
 no-fault blocks pending t ts e =
     let next : Option Fault = first_fault (blocks_after blocks t.lexeme) (is_word t.lexeme) ts in
@@ -96,7 +96,7 @@ few_blocks : (b : Bool) → let none : Option ℕ = None in (if b then none else
 few_blocks true e = refl
 few_blocks false e = absurd (cc)
 
-opening-kind : (blocks : ℕ) (pending : Bool) → kind_at blocks pending opening ≡ None → (pending ≡ true) × (blocks < 16)
+pub opening-kind : (blocks : ℕ) (pending : Bool) → kind_at blocks pending opening ≡ None → (pending ≡ true) × (blocks < 16)
 opening-kind blocks true e = (refl, ltb-true blocks 16 (few_blocks (nat_lt blocks 16) e))
 opening-kind blocks false e = absurd (cc)
 

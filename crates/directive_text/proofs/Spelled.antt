@@ -18,7 +18,7 @@ use Rattle.directive_text.proofs.Printed.{semicolon-read, opening-read, closing-
 use Rattle.directive_text.proofs.Trees.{marks-ended, marks-block}
 
 -- LFs of two texts
-feeds-append : (line : ℕ) (a b : List ℕ) → line + line_feeds a + line_feeds b ≡ line + line_feeds (a ++ b)
+pub feeds-append : (line : ℕ) (a b : List ℕ) → line + line_feeds a + line_feeds b ≡ line + line_feeds (a ++ b)
 feeds-append line a b = add_assoc line (line_feeds a) (line_feeds b) ∙ ap (λ n. line + n) (sym (sum_by-append _ a b))
 
 -- a text without LF
@@ -210,7 +210,7 @@ words-goes {next} (one_word value words text gap rest w g ws) b line more =
     joined (joined (before (ahead_of gap rest next more) (word-goes w b line (tail_of (gap ++ rest) next more))) (gap-goes g b (line + line_feeds text) true (rest ++ next ∷ more)))
     (words-goes ws b (line + line_feeds (text ++ gap)) more)
 
-head-goes : {next : ℕ} {words : List (List ℕ)} {text : List ℕ} → words ≢ [] → WordsText next words text → (b line : ℕ) (more : List ℕ) → Goes b false line text (begins line ∷ map has words) b true (next ∷ more)
+pub head-goes : {next : ℕ} {words : List (List ℕ)} {text : List ℕ} → words ≢ [] → WordsText next words text → (b line : ℕ) (more : List ℕ) → Goes b false line text (begins line ∷ map has words) b true (next ∷ more)
 head-goes {next} some no_word b line more = absurd (some refl)
 head-goes {next} some (one_word value words text gap rest w g ws) b line more =
     joined (joined (before (ahead_of gap rest next more) (first_word-goes w b line (tail_of (gap ++ rest) next more))) (gap-goes g b (line + line_feeds text) true (rest ++ next ∷ more)))
@@ -268,7 +268,7 @@ mutual
       joined (joined (gap-goes g b line false (text ++ (rest ++ more))) (directive-goes one (rest ++ more))) (directives-goes ds_text more)
 
 -- a comment without LF is the last
-last_comment : (said : List ℕ) (line : ℕ) → line_feeds said ≡ 0 → comment line said ≡ record { line = line; lexeme = end } ∷ []
+pub last_comment : (said : List ℕ) (line : ℕ) → line_feeds said ≡ 0 → comment line said ≡ record { line = line; lexeme = end } ∷ []
 last_comment [] line e = refl
 last_comment (b ∷ bs) line e = let h = no_feed b bs e in rw h.0 (last_comment bs line h.1)
 
