@@ -4,11 +4,12 @@ use Rattle.std.specs.Prelude.{◌==◌, if◌then◌else◌, nat_lt}
 use Rattle.std.proofs.lemmas.Bool.{ltb-true}
 use Rattle.directive_text.specs.declared.tree.Directive.{Directive}
 use Rattle.directive_text.specs.Bytes.{is_blank, is_quote, may_follow, below}
-use Rattle.directive_text.specs.Lexemes.{Token, Lexeme, word, semicolon, opening, closing, misplaced, end, Rest, followed, between, comment, plain, plain_pair, quoted, quoted_pair, tokens_of}
-use Rattle.directive_text.specs.Faults.{Fault, kind_at, blocks_after, is_word, first_fault}
-use Rattle.directive_text.specs.Marks.{Mark, lexeme_marks, token_marks}
+use Rattle.directive_text.specs.Internals.Lexemes.{Token, Lexeme, word, semicolon, opening, closing, misplaced, end, Rest, followed, between, comment, plain, plain_pair, quoted, quoted_pair, tokens_of}
+use Rattle.directive_text.specs.Internals.Tokens.{Fault, kind_at, blocks_after, is_word, first_fault}
+use Rattle.directive_text.specs.Marks.{Mark}
+use Rattle.directive_text.specs.Internals.Tokens.{lexeme_marks, token_marks}
 use Rattle.directive_text.specs.Printing.{MarksFit, Fits}
-use Rattle.directive_text.specs.Reading.{Spells}
+use Rattle.directive_text.specs.Internals.Tokens.{Says}
 
 -- the lines of tokens don't fall, from a line on
 abbrev Rises : ℕ → List Token → Type 0
@@ -121,5 +122,5 @@ marks-fit (t ∷ ts) blocks pending line r e =
     (λ low h. marks-fit ts (blocks_after blocks t.lexeme) (is_word t.lexeme) low (earlier low t.line ts h r.1) n.1)
 
 -- what a text spells has a canonical text
-pub spelled-fits : (text : List ℕ) (ds : List Directive) → Spells text ds → Fits ds
+pub spelled-fits : (text : List ℕ) (ds : List Directive) → Says text ds → Fits ds
 spelled-fits text ds s = subst (λ ms. MarksFit 1 0 false ms) s.marks (marks-fit (tokens_of text) 0 false 1 (between-rises 1 text) s.sound)

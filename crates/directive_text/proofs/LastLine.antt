@@ -3,9 +3,9 @@ use Rattle.std.proofs.Common.{◌≡◌, ℕ, ◌+◌, Bool, true, false, not, �
 use Rattle.std.specs.Prelude.{◌==◌, if◌then◌else◌, nat_lt}
 use Rattle.std.proofs.lemmas.Bool.{eqb-true}
 use Rattle.std.proofs.lemmas.List.Sums.{sum_by-cons}
-use Rattle.directive_text.specs.Lexemes.{Token, Lexeme, word, semicolon, opening, closing, misplaced, end, Rest, followed, between, comment, plain, plain_pair, quoted, quoted_pair}
+use Rattle.directive_text.specs.Internals.Lexemes.{Token, Lexeme, word, semicolon, opening, closing, misplaced, end, Rest, followed, between, comment, plain, plain_pair, quoted, quoted_pair}
 use Rattle.directive_text.specs.Bytes.{is_blank, is_quote, may_follow, below}
-use Rattle.directive_text.specs.Faults.{Fault, kind_at, blocks_after, is_word, first_fault}
+use Rattle.directive_text.specs.Internals.Tokens.{Fault, kind_at, blocks_after, is_word, first_fault}
 use Rattle.directive_text.specs.Spelling.{line_feeds}
 use Rattle.directive_text.specs.Internals.Steps.{is_end}
 use Rattle.directive_text.proofs.Places.{or_false, quote_ends_no_line}
@@ -53,7 +53,7 @@ or_some : (b : Bool) (kind : ℕ) → (kind ≡ 2 → ⊥) → let none : Option
 or_some true kind f e = unlike kind f e
 or_some false kind f e = cc
 
-kind-end : (x : Lexeme) (blocks : ℕ) (pending : Bool) → is_end x ≡ false → kind_at blocks pending x ≡ Some 2 → ⊥
+pub kind-end : (x : Lexeme) (blocks : ℕ) (pending : Bool) → is_end x ≡ false → kind_at blocks pending x ≡ Some 2 → ⊥
 kind-end (word w) blocks pending other e = cc
 kind-end semicolon blocks pending other e = or_none pending 3 (λ h. omega arith) e
 kind-end opening blocks true other e = or_none (nat_lt blocks 16) 7 (λ h. omega arith) e

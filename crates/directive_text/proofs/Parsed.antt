@@ -6,245 +6,16 @@ use Rattle.std.proofs.lemmas.Bool.{eqb-true, lt-ltb}
 use Rattle.std.proofs.lemmas.List.Sums.{sum_by-cons}
 use Rattle.directive_text.specs.declared.tree.Directive.{Directive}
 use Rattle.directive_text.specs.Bytes.{is_blank, is_quote, may_follow, below, ends_plain}
-use Rattle.directive_text.specs.Lexemes.{Token, end, Rest, word_at, followed, between, plain, plain_pair, quoted, quoted_pair}
-use Rattle.directive_text.specs.Lexemes as lexemes
-use Rattle.directive_text.specs.Faults.{Fault, first_fault}
-use Rattle.directive_text.specs.Spelling.{line_feeds, Piece, itself, escaped, piece_text, piece_value, stays_quoted, ends_before, begins_plain, WordText, GapText, nothing, blank, first, WordsText, no_word, one_word, DirectiveText, simple, block, DirectivesText, no_directive, one_directive, Spelled, whole, in_comment}
+use Rattle.directive_text.specs.Internals.Lexemes.{Token, end, Rest, word_at, followed, between, plain, plain_pair, quoted, quoted_pair}
+use Rattle.directive_text.specs.Internals.Lexemes as lexemes
+use Rattle.directive_text.specs.Internals.Tokens.{Fault, first_fault}
+use Rattle.directive_text.specs.Spelling.{line_feeds, Piece, itself, escaped, piece_text, piece_value, stays_quoted, ends_before, begins_plain, WordText, GapText, nothing, blank, first, WordsText, no_word, one_word, DirectiveText, simple, block, DirectivesText, no_directive, one_directive, Spells, whole, in_comment}
 use Rattle.directive_text.specs.Spelling as spelling
 use Rattle.directive_text.proofs.Places.{or_false, tells, plain-byte, plain-backslash, between-plain, between-hash}
 use Rattle.directive_text.proofs.Spelled.{feeds-append, quote-read, word-read, gap-read, last_comment, tail_of, ahead_of, head-goes, directives-goes, directive-goes}
 use Rattle.directive_text.proofs.Printed.{semicolon-read, opening-read, closing-read}
 use Rattle.directive_text.proofs.Fitting.{no-fault, opening-kind}
-
--- what stands behind a gap: nothing, a comment that the text's end ends, or a byte that is in no gap
-data Behind : List ℕ → Type 0 where
-  at_end : Behind []
-  at_comment : (said : List ℕ) → line_feeds said ≡ 0 → Behind (35 ∷ said)
-  at_byte : (b : ℕ) (bs : List ℕ) → is_blank b ≡ false → (b == 35) ≡ false → Behind (b ∷ bs)
-
--- a text as its gap and what stands behind it
-record Skipped (bs : List ℕ) : Type 0 where
-  gap : List ℕ
-  rest : List ℕ
-  is : bs ≡ gap ++ rest
-  text : GapText gap
-  behind : Behind rest
-
--- a comment's bytes up to its LF
-record Said (bs : List ℕ) : Type 0 where
-  said : List ℕ
-  rest : List ℕ
-  is : bs ≡ said ++ 10 ∷ rest
-  none : line_feeds said ≡ 0
-  skipped : Skipped rest
-
-feed_free : (b : ℕ) (bs : List ℕ) → (b == 10) ≡ false → line_feeds bs ≡ 0 → line_feeds (b ∷ bs) ≡ 0
-feed_free b bs h e = rw (sum_by-cons, h) (omega (arith, e))
-
-said_on : (b : ℕ) (bs : List ℕ) → (b == 10) ≡ false → Said bs → Said (b ∷ bs)
-said_on b bs h s = record { said = b ∷ s.said; rest = s.rest; is = ap (λ z. b ∷ z) s.is; none = feed_free b s.said h s.none; skipped = s.skipped }
-
-skipped_said : (bs : List ℕ) → Said bs → Skipped (35 ∷ bs)
-skipped_said bs s = record {
-  gap = 35 ∷ s.said ++ 10 ∷ s.skipped.gap;
-  rest = s.skipped.rest;
-  is = ap (λ z. 35 ∷ z) (s.is ∙ ap (λ z. s.said ++ 10 ∷ z) s.skipped.is ∙ sym (append_assoc s.said (10 ∷ s.skipped.gap) s.skipped.rest));
-  text = spelling.comment s.said s.skipped.gap s.none s.skipped.text;
-  behind = s.skipped.behind;
-}
-
-mutual
-  skip : (bs : List ℕ) → Skipped bs
-  skip [] = record { gap = []; rest = []; is = refl; text = nothing; behind = at_end }
-  skip (b ∷ bs) = elim (tells (is_blank b)) [
-    | inl h ↦ let s = skip bs in record { gap = b ∷ s.gap; rest = s.rest; is = ap (λ z. b ∷ z) s.is; text = blank b s.gap h s.text; behind = s.behind }
-    | inr h ↦ elim (tells (b == 35)) [
-      | inl k ↦ subst (λ n. Skipped (n ∷ bs)) (sym (eqb-true b 35 k)) (elim (skip_comment bs) [
-        | inl s ↦ skipped_said bs s
-        | inr e ↦ record { gap = []; rest = 35 ∷ bs; is = refl; text = nothing; behind = at_comment bs e }
-      ])
-      | inr k ↦ record { gap = []; rest = b ∷ bs; is = refl; text = nothing; behind = at_byte b bs h k }
-    ]
-  ]
-
-  skip_comment : (bs : List ℕ) → Said bs ⊎ (line_feeds bs ≡ 0)
-  skip_comment [] = inr refl
-  skip_comment (b ∷ bs) = elim (tells (b == 10)) [
-    | inl h ↦ inl (subst (λ n. Said (n ∷ bs)) (sym (eqb-true b 10 h)) (record { said = []; rest = bs; is = refl; none = refl; skipped = skip bs }))
-    | inr h ↦ elim (skip_comment bs) [
-      | inl s ↦ inl (said_on b bs h s)
-      | inr e ↦ inr (feed_free b bs h e)
-    ]
-  ]
-
--- the rest of a plain word, and the byte that ends it
-record PlainRest (dollar : Bool) (bs : List ℕ) : Type 0 where
-  pieces : List Piece
-  next : ℕ
-  rest : List ℕ
-  is : bs ≡ flat_map piece_text pieces ++ next ∷ rest
-  ends : ends_before next dollar pieces ≡ true
-
-record PairRest (bs : List ℕ) : Type 0 where
-  byte : ℕ
-  behind : List ℕ
-  is : bs ≡ byte ∷ behind
-  plain : PlainRest false behind
-
-with_pair : (dollar : Bool) (bs : List ℕ) → PairRest bs → PlainRest dollar (92 ∷ bs)
-with_pair dollar bs p = record {
-  pieces = escaped p.byte ∷ p.plain.pieces;
-  next = p.plain.next;
-  rest = p.plain.rest;
-  is = ap (λ z. 92 ∷ z) (p.is ∙ ap (λ z. p.byte ∷ z) p.plain.is);
-  ends = p.plain.ends;
-}
-
-with_byte : (dollar : Bool) (b : ℕ) (bs : List ℕ) → ends_plain dollar b ≡ false → (b == 92) ≡ false → PlainRest (b == 36 || b == 123) bs → PlainRest dollar (b ∷ bs)
-with_byte dollar b bs h k r = record {
-  pieces = itself b ∷ r.pieces;
-  next = r.next;
-  rest = r.rest;
-  is = ap (λ z. b ∷ z) r.is;
-  ends = rw (h, k) r.ends;
-}
-
-mutual
-  plain_rest : (blocks : ℕ) (dollar : Bool) (line : ℕ) (bs : List ℕ) → first_fault blocks true (plain dollar line bs).tokens ≡ None → PlainRest dollar bs
-  plain_rest blocks dollar line [] e = absurd (cc)
-  plain_rest blocks dollar line (b ∷ bs) e = elim (tells (ends_plain dollar b)) [
-    | inl h ↦ record { pieces = []; next = b; rest = bs; is = refl; ends = h }
-    | inr h ↦ elim (tells (b == 92)) [
-      | inl k ↦
-          let is = eqb-true b 92 k in
-          let read = ap (λ n. plain dollar line (n ∷ bs)) is ∙ plain-backslash dollar line bs in
-          subst (λ n. PlainRest dollar (n ∷ bs)) (sym is) (with_pair dollar bs (pair_rest blocks line bs (subst (λ (r : Rest). first_fault blocks true r.tokens ≡ None) read e)))
-      | inr k ↦
-          with_byte dollar b bs h k (plain_rest blocks (b == 36 || b == 123) line bs (subst (λ (r : Rest). first_fault blocks true r.tokens ≡ None) (plain-byte dollar line b bs h k) e))
-    ]
-  ]
-
-  pair_rest : (blocks line : ℕ) (bs : List ℕ) → first_fault blocks true (plain_pair line bs).tokens ≡ None → PairRest bs
-  pair_rest blocks line [] e = absurd (cc)
-  pair_rest blocks line (b ∷ bs) e = record { byte = b; behind = bs; is = refl; plain = plain_rest blocks false (below line b) bs e }
-
--- the rest of a quoted word, and the byte behind it
-record QuotedRest (quote : ℕ) (bs : List ℕ) : Type 0 where
-  pieces : List Piece
-  next : ℕ
-  rest : List ℕ
-  is : bs ≡ flat_map piece_text pieces ++ quote ∷ next ∷ rest
-  stays : list_all (stays_quoted quote) pieces ≡ true
-  follows : may_follow next ≡ true
-
-record QuotedPairRest (quote : ℕ) (bs : List ℕ) : Type 0 where
-  byte : ℕ
-  behind : List ℕ
-  is : bs ≡ byte ∷ behind
-  quoted : QuotedRest quote behind
-
-with_quoted_pair : (quote : ℕ) (bs : List ℕ) → QuotedPairRest quote bs → QuotedRest quote (92 ∷ bs)
-with_quoted_pair quote bs p = record {
-  pieces = escaped p.byte ∷ p.quoted.pieces;
-  next = p.quoted.next;
-  rest = p.quoted.rest;
-  is = ap (λ z. 92 ∷ z) (p.is ∙ ap (λ z. p.byte ∷ z) p.quoted.is);
-  stays = p.quoted.stays;
-  follows = p.quoted.follows;
-}
-
--- behind a closing quote
-quote_ends : (blocks quote line : ℕ) (bs : List ℕ) → first_fault blocks true (followed line bs (between line bs)) ≡ None → QuotedRest quote (quote ∷ bs)
-quote_ends blocks quote line [] e = absurd (cc)
-quote_ends blocks quote line (b ∷ bs) e = elim (tells (may_follow b)) [
-  | inl h ↦ record { pieces = []; next = b; rest = bs; is = refl; stays = refl; follows = h }
-  | inr h ↦ absurd (cc (rw h at e))
-]
-
-with_quoted_byte : (quote b : ℕ) (bs : List ℕ) → (b == quote) ≡ false → (b == 92) ≡ false → QuotedRest quote bs → QuotedRest quote (b ∷ bs)
-with_quoted_byte quote b bs h k r = record {
-  pieces = itself b ∷ r.pieces;
-  next = r.next;
-  rest = r.rest;
-  is = ap (λ z. b ∷ z) r.is;
-  stays = rw (h, k) r.stays;
-  follows = r.follows;
-}
-
-mutual
-  quoted_rest : (blocks quote line : ℕ) (bs : List ℕ) → first_fault blocks true (quoted quote line bs).tokens ≡ None → QuotedRest quote bs
-  quoted_rest blocks quote line [] e = absurd (cc)
-  quoted_rest blocks quote line (b ∷ bs) e = elim (tells (b == quote)) [
-    | inl h ↦ subst (λ n. QuotedRest quote (n ∷ bs)) (sym (eqb-true b quote h)) (quote_ends blocks quote line bs (rw h at e))
-    | inr h ↦ elim (tells (b == 92)) [
-      | inl k ↦ subst (λ n. QuotedRest quote (n ∷ bs)) (sym (eqb-true b 92 k)) (with_quoted_pair quote bs (quoted_pair_rest blocks quote line bs (rw (h, k) at e)))
-      | inr k ↦ with_quoted_byte quote b bs h k (quoted_rest blocks quote (below line b) bs (rw (h, k) at e))
-    ]
-  ]
-
-  quoted_pair_rest : (blocks quote line : ℕ) (bs : List ℕ) → first_fault blocks true (quoted_pair quote line bs).tokens ≡ None → QuotedPairRest quote bs
-  quoted_pair_rest blocks quote line [] e = absurd (cc)
-  quoted_pair_rest blocks quote line (b ∷ bs) e = record { byte = b; behind = bs; is = refl; quoted = quoted_rest blocks quote (below line b) bs e }
-
--- a byte that begins a word
-pub record BeginsWord (b : ℕ) : Type 0 where
-  pub blank : is_blank b ≡ false
-  pub hash : (b == 35) ≡ false
-  pub semicolon : (b == 59) ≡ false
-  pub opening : (b == 123) ≡ false
-  pub closing : (b == 125) ≡ false
-
--- a word, and the byte behind it
-pub record WordRest (bs : List ℕ) : Type 0 where
-  pub value : List ℕ
-  pub text : List ℕ
-  pub next : ℕ
-  pub rest : List ℕ
-  pub is : bs ≡ text ++ next ∷ rest
-  pub word : WordText next value text
-
-begins : (b : ℕ) → BeginsWord b → ends_plain false b ≡ false
-unfolding ends_plain
-begins b f = rw (f.blank, f.semicolon, f.opening) refl
-
--- the first piece begins with the first byte
-pieces_begin : (b next : ℕ) (bs rest : List ℕ) (pieces : List Piece) → BeginsWord b → is_quote b ≡ false → b ∷ bs ≡ flat_map piece_text pieces ++ next ∷ rest → ends_before next false pieces ≡ true → begins_plain pieces ≡ true
-pieces_begin b next bs rest [] f q is e =
-    let same : b ≡ next = cc in
-    let none : ends_plain false next ≡ false = subst (λ n. ends_plain false n ≡ false) same (begins b f) in
-    absurd (cc)
-pieces_begin b next bs rest (itself c ∷ pieces) f q is e =
-    let same : b ≡ c = cc in
-    subst (λ n. not (n == 35 || n == 125 || is_quote n) ≡ true) same (rw (f.hash, f.closing, q) refl)
-pieces_begin b next bs rest (escaped c ∷ pieces) f q is e = refl
-
-quoted_word : (b : ℕ) (bs : List ℕ) → is_quote b ≡ true → QuotedRest b bs → WordRest (b ∷ bs)
-quoted_word b bs q r =
-    let text = flat_map piece_text r.pieces in
-    record {
-      value = flat_map piece_value r.pieces;
-      text = b ∷ text ++ b ∷ [];
-      next = r.next;
-      rest = r.rest;
-      is = ap (λ z. b ∷ z) (r.is ∙ sym (append_assoc text (b ∷ []) (r.next ∷ r.rest)));
-      word = spelling.quoted b r.pieces q r.stays r.follows;
-    }
-
-plain_word : (b : ℕ) (bs : List ℕ) → BeginsWord b → is_quote b ≡ false → PlainRest false (b ∷ bs) → WordRest (b ∷ bs)
-plain_word b bs f q r = record {
-  value = flat_map piece_value r.pieces;
-  text = flat_map piece_text r.pieces;
-  next = r.next;
-  rest = r.rest;
-  is = r.is;
-  word = spelling.plain r.pieces (pieces_begin b r.next bs r.rest r.pieces f q r.is r.ends) r.ends;
-}
-
-word_rest : (blocks line b : ℕ) (pending : Bool) (bs : List ℕ) → BeginsWord b → first_fault blocks pending (between line (b ∷ bs)) ≡ None → WordRest (b ∷ bs)
-word_rest blocks line b pending bs f e = elim (tells (is_quote b)) [
-  | inl q ↦ quoted_word b bs q (quoted_rest blocks b line bs (subst (λ (ts : List Token). first_fault blocks pending ts ≡ None) (quote-read b line bs q) e))
-  | inr q ↦ plain_word b bs f q (plain_rest blocks false line (b ∷ bs) (subst (λ (ts : List Token). first_fault blocks pending ts ≡ None) (between-plain line b bs (begins b f) f.hash f.closing q) e))
-]
+use Rattle.directive_text.proofs.Split.{Behind, at_end, at_comment, at_byte, Skipped, skip, Lasts, BeginsWord, WordRest, Misplaced, word_rest, word_long, comment_end, misplaced_read}
 
 -- words up to the byte that ends them, `;` or `{`
 pub record WordsRest (bs : List ℕ) : Type 0 where
@@ -274,17 +45,6 @@ extended bs w gap words text next rest g ws is stop =
       stops = stop;
     }
 
--- a word has a byte
-word_long : {next : ℕ} {value text : List ℕ} → WordText next value text → 0 < length text
-word_long (spelling.plain [] b e) = absurd (cc)
-word_long (spelling.plain (itself c ∷ pieces) b e) = omega arith
-word_long (spelling.plain (escaped c ∷ pieces) b e) = omega arith
-word_long (spelling.quoted quote pieces q s f) = omega arith
-
--- a comment that the text's end ends is its end
-comment_end : (line : ℕ) (said : List ℕ) → line_feeds said ≡ 0 → between line (35 ∷ said) ≡ record { line = line; lexeme = end } ∷ []
-comment_end line said n = between-hash line said ∙ last_comment said line n
-
 -- behind a word and its gap its directive's words end, or one more begins
 after_word : (fuel blocks line : ℕ) (bs : List ℕ) (w : WordRest bs) (gap rest : List ℕ) → GapText gap → w.next ∷ w.rest ≡ gap ++ rest → length rest ≤ fuel → Behind rest →
     first_fault blocks true (between line rest) ≡ None →
@@ -309,10 +69,19 @@ after_word fuel blocks line bs w gap _ g is len (at_byte c cs dark hash) e again
   ]
 ]
 
+-- where no fault is, a word's byte behind it may follow
+sound_word : (blocks line b : ℕ) (pending : Bool) (bs : List ℕ) → BeginsWord b → first_fault blocks pending (between line (b ∷ bs)) ≡ None → WordRest (b ∷ bs)
+sound_word blocks line b pending bs f e = elim (word_rest blocks line b pending bs f (record { early = λ fault h two. cc })) [
+  | inl w ↦ w
+  | inr m ↦
+      let fault = ap (λ z. first_fault blocks pending (between line z)) m.is ∙ misplaced_read blocks line pending m.quote m.next m.pieces m.rest m.quotes m.stays m.follows in
+      absurd (cc)
+]
+
 words_rest : (fuel blocks line : ℕ) (pending : Bool) (b : ℕ) (bs : List ℕ) → length (b ∷ bs) ≤ fuel → BeginsWord b → first_fault blocks pending (between line (b ∷ bs)) ≡ None → WordsRest (b ∷ bs)
 words_rest zero blocks line pending b bs len f e = absurd (omega arith)
 words_rest (suc fuel) blocks line pending b bs len f e =
-    let w = word_rest blocks line b pending bs f e in
+    let w = sound_word blocks line b pending bs f e in
     let s = skip (w.next ∷ w.rest) in
     let behind = line + line_feeds w.text in
     let read = ap (between line) w.is ∙ word-read w.word line w.rest in
@@ -447,14 +216,14 @@ parse (suc fuel) blocks line bs len e =
     (gap_parse fuel blocks line s.gap s.rest s.text s.behind fewer (subst (λ (ts : List Token). first_fault blocks false ts ≡ None) read e) (parse fuel))
 
 -- no block is open at the text's end
-whole_parse : (text : List ℕ) → first_fault 0 false (between 1 text) ≡ None → Parsed 0 1 text → (ds : List Directive) × Spelled text ds
+whole_parse : (text : List ℕ) → first_fault 0 false (between 1 text) ≡ None → Parsed 0 1 text → (ds : List Directive) × Spells text ds
 whole_parse text e (to_end ds z is) = (ds, whole text ds is)
-whole_parse text e (to_comment ds front said z is n some) = (ds, subst (λ t. Spelled t ds) (sym is) (in_comment front said ds some n))
+whole_parse text e (to_comment ds front said z is n some) = (ds, subst (λ t. Spells t ds) (sym is) (in_comment front said ds some n))
 whole_parse text e (to_brace ds front rest is some) =
     let here : ℕ = 1 + line_feeds front in
     let h : first_fault 0 false (record { line = here; lexeme = lexemes.closing } ∷ between here rest) ≡ None =
     ap (first_fault 0 false) (sym (closing-read here rest)) ∙ sym (directives-goes some (125 ∷ rest)).faults ∙ ap (λ z. first_fault 0 false (between 1 z)) (sym is) ∙ e in
     absurd (cc)
 
-pub sound-spelled : (text : List ℕ) → first_fault 0 false (between 1 text) ≡ None → (ds : List Directive) × Spelled text ds
+pub sound-spelled : (text : List ℕ) → first_fault 0 false (between 1 text) ≡ None → (ds : List Directive) × Spells text ds
 sound-spelled text e = whole_parse text e (parse (suc (length text)) 0 1 text (omega arith) e)

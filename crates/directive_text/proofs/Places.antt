@@ -5,7 +5,7 @@ use Rattle.std.proofs.lemmas.List.{get_or-drop}
 use Rattle.std.proofs.lemmas.Bool.{ne_eqb, eqb-true}
 use Rattle.directive_text.specs.Bytes.{is_blank, is_quote, below, ends_plain}
 use Rattle.directive_text.specs.Internals.Steps.{Passes}
-use Rattle.directive_text.specs.Lexemes.{Token, word, semicolon, opening, closing, Rest, kept, ends, word_at, followed, between, comment, plain, plain_pair, quoted, quoted_pair}
+use Rattle.directive_text.specs.Internals.Lexemes.{Token, word, semicolon, opening, closing, Rest, kept, ends, word_at, followed, between, comment, plain, plain_pair, quoted, quoted_pair}
 
 -- bytes in front of bytes in front
 pub kept_kept : (a b : List ℕ) (r : Rest) → kept a (kept b r) ≡ kept (a ++ b) r

@@ -7,11 +7,12 @@ use Rattle.directive_text.specs.declared.tree.Directive.{Directive}
 use Rattle.directive_text.specs.declared.tree.Directive.TheViews.{roll-Directive}
 use Rattle.directive_text.specs.declared.tree.Directive.TheFolds.{ind-Directive, map-Directive}
 use Rattle.directive_text.specs.Bytes.{is_blank, is_quote, may_follow, below, unescaped, ends_plain}
-use Rattle.directive_text.specs.Lexemes.{Token, word, semicolon, opening, closing, kept, ends, word_at, followed, between, plain, quoted}
-use Rattle.directive_text.specs.Faults.{Fault, kind_at, blocks_after, is_word, first_fault}
-use Rattle.directive_text.specs.Marks.{Mark, begins, has, ended, opened, closed, directive_marks, marks_of, token_marks}
+use Rattle.directive_text.specs.Internals.Lexemes.{Token, word, semicolon, opening, closing, kept, ends, word_at, followed, between, plain, quoted}
+use Rattle.directive_text.specs.Internals.Tokens.{Fault, kind_at, blocks_after, is_word, first_fault}
+use Rattle.directive_text.specs.Marks.{Mark, begins, has, ended, opened, closed, directive_marks, marks_of}
+use Rattle.directive_text.specs.Internals.Tokens.{token_marks}
 use Rattle.directive_text.specs.Printing.{is_plain, is_plain_word, in_quotes, word_text, marks_text, printed, MarksFit, Fits}
-use Rattle.directive_text.specs.Reading.{Spells}
+use Rattle.directive_text.specs.Internals.Tokens.{Says}
 use Rattle.directive_text.proofs.Places.{or_false, and_true, not_true, tells, plain-byte, between-plain}
 use Rattle.directive_text.proofs.Trees.{marks-ended, marks-block}
 
@@ -283,7 +284,7 @@ with_reading [] = ([], refl)
 with_reading (d ∷ ds) = let p = with_reading ds in ((d, is_read d) ∷ p.0, ap (λ r. d ∷ r) p.1)
 
 -- the canonical text of a tree spells it
-pub printed-spells : (ds : List Directive) → Fits ds → Spells (printed ds) ds
+pub printed-spells : (ds : List Directive) → Fits ds → Says (printed ds) ds
 printed-spells ds f =
     let p = with_reading ds in
     let a : marks_of (map (λ e. e.0) p.0) ++ [] ≡ marks_of ds = append-nil _ ∙ ap marks_of p.1 in

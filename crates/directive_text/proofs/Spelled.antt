@@ -6,11 +6,12 @@ use Rattle.std.proofs.lemmas.Bool.{eqb-true}
 use Rattle.std.proofs.lemmas.List.Sums.{sum_by-cons, sum_by-append}
 use Rattle.directive_text.specs.declared.tree.Directive.{Directive}
 use Rattle.directive_text.specs.Bytes.{is_blank, is_quote, may_follow, below, unescaped, ends_plain}
-use Rattle.directive_text.specs.Lexemes.{word, end, kept, ends, word_at, followed, between, comment, plain, plain_pair, quoted, quoted_pair}
-use Rattle.directive_text.specs.Faults.{first_fault}
-use Rattle.directive_text.specs.Marks.{Mark, begins, has, ended, opened, closed, directive_marks, marks_of, token_marks}
-use Rattle.directive_text.specs.Reading.{Spells}
-use Rattle.directive_text.specs.Spelling.{line_feeds, Piece, itself, escaped, piece_text, piece_value, stays_quoted, ends_before, begins_plain, WordText, GapText, nothing, blank, first, WordsText, no_word, one_word, DirectiveText, simple, block, DirectivesText, no_directive, one_directive, Spelled, whole, in_comment}
+use Rattle.directive_text.specs.Internals.Lexemes.{word, end, kept, ends, word_at, followed, between, comment, plain, plain_pair, quoted, quoted_pair}
+use Rattle.directive_text.specs.Internals.Tokens.{first_fault}
+use Rattle.directive_text.specs.Marks.{Mark, begins, has, ended, opened, closed, directive_marks, marks_of}
+use Rattle.directive_text.specs.Internals.Tokens.{token_marks}
+use Rattle.directive_text.specs.Internals.Tokens.{Says}
+use Rattle.directive_text.specs.Spelling.{line_feeds, Piece, itself, escaped, piece_text, piece_value, stays_quoted, ends_before, begins_plain, WordText, GapText, nothing, blank, first, WordsText, no_word, one_word, DirectiveText, simple, block, DirectivesText, no_directive, one_directive, Spells, whole, in_comment}
 use Rattle.directive_text.specs.Spelling as spelling
 use Rattle.directive_text.proofs.Places.{kept_kept, or_true, or_false, and_true, not_true, same_line, plain-end, plain-byte, plain-backslash, between-plain, between-hash, between-blank, between-quote, quote_ends_no_line}
 use Rattle.directive_text.proofs.LastLine.{feeds-below, feeds-same, feed_ends, other_ends_no_line, backslash_ends_no_line}
@@ -75,7 +76,7 @@ no_backslash quote q = elim (or_true (quote == 34) (quote == 39) q) [
   | inr h ↦ subst (λ n. (92 == n) ≡ false) (sym (eqb-true quote 39 h)) refl
 ]
 
-quoted-read : (quote : ℕ) (pieces : List Piece) → is_quote quote ≡ true → list_all (stays_quoted quote) pieces ≡ true → (line : ℕ) (more : List ℕ) →
+pub quoted-read : (quote : ℕ) (pieces : List Piece) → is_quote quote ≡ true → list_all (stays_quoted quote) pieces ≡ true → (line : ℕ) (more : List ℕ) →
     quoted quote line (flat_map piece_text pieces ++ quote ∷ more)
     ≡ kept (flat_map piece_value pieces) (ends (let n = line + line_feeds (flat_map piece_text pieces) in followed n more (between n more)))
 quoted-read quote [] q h line more =
@@ -272,7 +273,7 @@ pub last_comment : (said : List ℕ) (line : ℕ) → line_feeds said ≡ 0 → 
 last_comment [] line e = refl
 last_comment (b ∷ bs) line e = let h = no_feed b bs e in rw h.0 (last_comment bs line h.1)
 
-pub spelled-spells : (text : List ℕ) (ds : List Directive) → Spelled text ds → Spells text ds
+pub spelled-spells : (text : List ℕ) (ds : List Directive) → Spells text ds → Says text ds
 spelled-spells _ ds (whole text _ is) =
     let g = directives-goes is [] in
     record {

@@ -1,9 +1,9 @@
 -- A fault before the end of a text stays, whatever follows.
 use Rattle.std.proofs.Common.{◌≡◌, ◌≢◌, ℕ, ◌+◌, Bool, true, false, not, ◌&&◌, ◌||◌, List, [], ◌∷◌, ◌++◌, Option, None, Some, refl, sym}
 use Rattle.std.specs.Prelude.{◌==◌, if◌then◌else◌, nat_lt}
-use Rattle.directive_text.specs.Lexemes.{Token, Lexeme, word, semicolon, opening, closing, misplaced, end, Rest, followed, between, comment, plain, plain_pair, quoted, quoted_pair}
+use Rattle.directive_text.specs.Internals.Lexemes.{Token, Lexeme, word, semicolon, opening, closing, misplaced, end, Rest, followed, between, comment, plain, plain_pair, quoted, quoted_pair}
 use Rattle.directive_text.specs.Bytes.{is_blank, is_quote, may_follow, below}
-use Rattle.directive_text.specs.Faults.{Fault, kind_at, blocks_after, is_word, first_fault}
+use Rattle.directive_text.specs.Internals.Tokens.{Fault, kind_at, blocks_after, is_word, first_fault}
 
 -- these tokens' first fault, if it isn't the end of the text, is those tokens' too
 record Stays (ts us : List Token) : Type 0 where
@@ -27,7 +27,7 @@ word_in_front : (line : ℕ) (v w : List ℕ) (ts us : List Token) → Stays ts 
 word_in_front line v w ts us s = record { fault = λ blocks pending fault e f. s.fault blocks true fault e f }
 
 -- the end of the text is a fault of kind 2, or none
-end_kind : (line : ℕ) (b : Bool) (fault : Fault) → let none : Option ℕ = None in
+pub end_kind : (line : ℕ) (b : Bool) (fault : Fault) → let none : Option ℕ = None in
     elim (if b then Some 2 else none) as (λ _. Option Fault) [ Some kind ↦ Some (record { line = line; kind = kind }) | None ↦ None ] ≡ Some fault → 2 ≡ fault.kind
 end_kind line true fault e = cc
 end_kind line false fault e = absurd (cc)

@@ -1,8 +1,6 @@
 pub mod Bytes
-pub mod Lexemes
+pub mod Spelling
 pub mod Faults
 pub mod Marks
-pub mod Reading
 pub mod Printing
-pub mod Spelling
 pub mod Internals

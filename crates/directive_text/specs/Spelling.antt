@@ -85,7 +85,7 @@ mutual
         → DirectivesText blocks line (directive ∷ directives) (gap ++ text ++ rest)
 
 -- A text of directives. A comment at its end may lack its LF.
-pub data Spelled : List ℕ → List Directive → Type 0 where
-  whole : (text : List ℕ) (directives : List Directive) → DirectivesText 0 1 directives text → Spelled text directives
+pub data Spells : List ℕ → List Directive → Type 0 where
+  whole : (text : List ℕ) (directives : List Directive) → DirectivesText 0 1 directives text → Spells text directives
   in_comment : (text said : List ℕ) (directives : List Directive) → DirectivesText 0 1 directives text → line_feeds said ≡ 0
-      → Spelled (text ++ 35 ∷ said) directives
+      → Spells (text ++ 35 ∷ said) directives

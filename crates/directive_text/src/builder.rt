@@ -1,9 +1,10 @@
 ghost use Rattle.std.specs.Prelude.{◌≡◌, ◌<◌, ◌+◌, ◌-◌, true, false, [], ◌∷◌, ◌++◌, IfOk, OnOk};
-ghost use Rattle.directive_text.specs.Marks.{ended, opened, closed, marks_of, lexeme_marks};
-ghost use Rattle.directive_text.specs.Faults.{kind_at, blocks_after, is_word};
+ghost use Rattle.directive_text.specs.Marks.{ended, opened, closed, marks_of};
+ghost use Rattle.directive_text.specs.Internals.Tokens.{lexeme_marks};
+ghost use Rattle.directive_text.specs.Internals.Tokens.{kind_at, blocks_after, is_word};
 ghost use Rattle.directive_text.specs.Internals.Progress.{Progress, some_word};
 ghost use Rattle.directive_text.specs.Internals.Steps.{lexeme_of};
-ghost use Rattle.directive_text.specs.Lexemes.{Lexeme, word};
+ghost use Rattle.directive_text.specs.Internals.Lexemes.{Lexeme, word};
 
 use crate::symbol::{PlacedSymbol, Symbol};
 use crate::tree::{Directive, Tree};

@@ -1,33 +1,30 @@
-ghost use Rattle.std.specs.Prelude.{◌≡◌, ◌≢◌, ◌+◌, ◌++◌, ℕ, List, None, Some};
+ghost use Rattle.std.specs.Prelude.{◌≡◌, ◌≢◌, ◌+◌, ◌++◌, ◌⊎◌, ℕ, List};
 ghost use Rattle.directive_text.specs.declared.tree.Directive.{Directive};
-ghost use Rattle.directive_text.specs.Faults.{Fault};
+ghost use Rattle.directive_text.specs.Faults.{HasFault};
 ghost use Rattle.directive_text.specs.Printing.{printed, Fits};
-ghost use Rattle.directive_text.specs.Reading.{Spells, fault_of};
-ghost use Rattle.directive_text.specs.Spelling.{Spelled, line_feeds};
+ghost use Rattle.directive_text.specs.Spelling.{Spells, line_feeds};
 
-/// Each spelling of a tree reads as that tree: its words plain or in quotes, with any escapes, and any white
-/// space and comments between them.
-pub fn spellings_read()
-    ensures { (text : List ℕ) (directives : List Directive) → Spelled text directives
-        → Spells text directives }
-{}
-
-/// A text without a fault is a spelling of a tree. So `Spelled` is all that is read.
-pub fn sound_texts_are_spellings()
-    ensures { (text : List ℕ) → fault_of text ≡ None
-        → (directives : List Directive) × Spelled text directives }
+/// Each text spells one tree or has one first fault, and not both.
+pub fn texts_spell_or_fail()
+    ensures either { (text : List ℕ) → ((directives : List Directive) × Spells text directives)
+        ⊎ ((line kind : ℕ) × HasFault text line kind) }
+    ensures one_tree { (text : List ℕ) (these those : List Directive) → Spells text these → Spells text those
+        → these ≡ those }
+    ensures one_fault { (text : List ℕ) (line kind other_line other_kind : ℕ) → HasFault text line kind
+        → HasFault text other_line other_kind → (line ≡ other_line) × (kind ≡ other_kind) }
+    ensures not_both { (text : List ℕ) (directives : List Directive) (line kind : ℕ) → Spells text directives
+        → ¬ HasFault text line kind }
 {}
 
 /// A fault that isn't the end of the text (kind 2) is the same whatever follows.
 pub fn faults_stay()
-    ensures { (text more : List ℕ) (fault : Fault) → fault_of text ≡ Some fault → fault.kind ≢ 2
-        → fault_of (text ++ more) ≡ Some fault }
+    ensures { (text more : List ℕ) (line kind : ℕ) → HasFault text line kind → kind ≢ 2
+        → HasFault (text ++ more) line kind }
 {}
 
-/// Where a text ends too early (kind 2), the fault's line is its last: 1 and the number of its LFs.
-pub fn end_is_on_the_last_line()
-    ensures { (text : List ℕ) (fault : Fault) → fault_of text ≡ Some fault → fault.kind ≡ 2
-        → fault.line ≡ 1 + line_feeds text }
+/// Where a text ends too early (kind 2), the fault is on its last line: 1 and the number of its LFs.
+pub fn early_ends_are_on_the_last_line()
+    ensures { (text : List ℕ) (line : ℕ) → HasFault text line 2 → line ≡ 1 + line_feeds text }
 {}
 
 /// The canonical text of a tree spells the tree: each directive has its words and its line again. So `read`

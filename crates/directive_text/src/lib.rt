@@ -13,7 +13,7 @@ mod tree;
 pub use builder::MAX_BLOCKS;
 pub use fault::TextFault;
 pub use laws::{
-    end_is_on_the_last_line, faults_stay, printed_reads_back, spelled_fits, spellings_read,
+    early_ends_are_on_the_last_line, faults_stay, printed_reads_back, spelled_fits, texts_spell_or_fail,
 };
 pub use reader::read;
 pub use tree::{Directive, Tree};

@@ -1,5 +1,6 @@
-ghost use Rattle.std.specs.Prelude.{◌≡◌, List, MatchResult};
-ghost use Rattle.directive_text.specs.Reading.{ReadsFault, Spells};
+ghost use Rattle.std.specs.Prelude.{◌≡◌, ◌⊎◌, ℕ, List, MatchResult};
+ghost use Rattle.directive_text.specs.Spelling.{Spells};
+ghost use Rattle.directive_text.specs.Faults.{HasFault, GivesFault};
 ghost use Rattle.directive_text.specs.Internals.Steps.{is_end, lexeme_of};
 ghost use Rattle.directive_text.specs.declared.tree.Directive.{Directive};
 
@@ -17,11 +18,15 @@ use std::alloc::Global;
 pub fn read(alloc: Global, text: &[u8]) -> Result<Tree, TextFault>
     // What is read is spelled so, and a fault is the first one.
     ensures reads { MatchResult result (λ tree. Spells text.now tree.directives)
-        (λ fault. ReadsFault text.now fault) }
+        (λ fault. GivesFault text.now fault) }
     // What is spelled so is read, unless memory runs out.
     ensures only { (directives : List Directive) → Spells text.now directives
         → MatchResult result (λ tree. tree.directives ≡ directives)
         (λ fault. fault ≡ TextFault.NoMemory) }
+    // A fault that the text has is answered, unless memory runs out.
+    ensures only_fault { (line kind : ℕ) → HasFault text.now line kind
+        → MatchResult result (λ _. ⊥)
+        (λ fault. (fault ≡ TextFault.At line kind) ⊎ (fault ≡ TextFault.NoMemory)) }
 {
     let mut scanner = Scanner::new(text);
     let mut builder = Builder::new(alloc);

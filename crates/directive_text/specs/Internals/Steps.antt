@@ -4,7 +4,7 @@ use Rattle.directive_text.specs.declared.symbol.Symbol.{Symbol}
 use Rattle.directive_text.specs.declared.symbol.Symbol.TheVariants.{Word, Semicolon, Opening, Closing, Misplaced, End}
 use Rattle.directive_text.specs.declared.symbol.PlacedSymbol.{PlacedSymbol}
 use Rattle.directive_text.specs.Bytes.{below}
-use Rattle.directive_text.specs.Lexemes.{Lexeme, word, semicolon, opening, closing, misplaced, end, Token, followed, between}
+use Rattle.directive_text.specs.Internals.Lexemes.{Lexeme, word, semicolon, opening, closing, misplaced, end, Token, followed, between}
 
 -- what a symbol of the code says
 abbrev pub lexeme_of : Symbol → Lexeme

@@ -1,5 +1,5 @@
 use Rattle.std.proofs.Common.{ap, sym, ◌∙◌, false}
-use Rattle.directive_text.specs.Lexemes.{kept, plain}
+use Rattle.directive_text.specs.Internals.Lexemes.{kept, plain}
 use Rattle.directive_text.proofs.Places.{word-plain}
 use Rattle.directive_text.proofs.scanner.Scanner.plain_symbol.Goals as goal
 
