@@ -1,6 +1,8 @@
+pub mod Continued
 pub mod Faulty
 pub mod Fitting
 pub mod LastLine
+pub mod Meaning
 pub mod Parsed
 pub mod Places
 pub mod Printed

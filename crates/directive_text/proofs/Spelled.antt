@@ -273,14 +273,14 @@ pub last_comment : (said : List ℕ) (line : ℕ) → line_feeds said ≡ 0 → 
 last_comment [] line e = refl
 last_comment (b ∷ bs) line e = let h = no_feed b bs e in rw h.0 (last_comment bs line h.1)
 
-pub spelled-spells : (text : List ℕ) (ds : List Directive) → Spells text ds → Says text ds
-spelled-spells _ ds (whole text _ is) =
+pub spells-says : (text : List ℕ) (ds : List Directive) → Spells text ds → Says text ds
+spells-says _ ds (whole text _ is) =
     let g = directives-goes is [] in
     record {
       sound = ap (λ t. first_fault 0 false (between 1 t)) (sym (append-nil text)) ∙ g.faults;
       marks = ap (λ t. token_marks false (between 1 t)) (sym (append-nil text)) ∙ g.marks ∙ append-nil (marks_of ds);
     }
-spelled-spells _ ds (in_comment text said _ is e) =
+spells-says _ ds (in_comment text said _ is e) =
     let g = directives-goes is (35 ∷ said) in
     let c = between-hash (1 + line_feeds text) said ∙ last_comment said (1 + line_feeds text) e in
     record {
