@@ -1,9 +1,8 @@
 -- A text that ends too early can be continued to one without a fault.
 use Rattle.std.proofs.Common.{◌≡◌, ℕ, zero, suc, ◌+◌, Bool, true, false, not, ◌&&◌, ◌||◌, List, [], ◌∷◌, ◌++◌, Option, None, Some, refl, sym, ◌∙◌, ap, subst, eq-eqb, add-one, arith}
-use Rattle.std.specs.Prelude.{◌==◌, if◌then◌else◌, nat_lt}
-use Rattle.std.proofs.lemmas.Bool.{eqb-true}
-use Rattle.directive_text.specs.Internals.Lexemes.{Token, Lexeme, Rest, followed, between, comment, plain, plain_pair, quoted, quoted_pair}
-use Rattle.directive_text.specs.Bytes.{is_blank, is_quote, may_follow, below, unescaped}
+use Rattle.std.specs.Prelude.{◌==◌, if◌then◌else◌}
+use Rattle.directive_text.specs.Internals.Lexemes.{Token, Rest, followed, between, comment, plain, plain_pair, quoted, quoted_pair}
+use Rattle.directive_text.specs.Bytes.{is_blank, is_quote, may_follow, below}
 use Rattle.directive_text.specs.Internals.Tokens.{Fault, kind_at, blocks_after, is_word, first_fault, fault_of}
 use Rattle.directive_text.specs.Internals.Steps.{is_end}
 use Rattle.directive_text.proofs.LastLine.{kind-end}

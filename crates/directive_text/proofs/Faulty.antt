@@ -1,13 +1,12 @@
 -- The first fault of a text is that of its tokens.
-use Rattle.std.proofs.Common.{◌≡◌, ◌≢◌, ℕ, zero, suc, ◌+◌, ◌<◌, ◌≤◌, Bool, true, false, ◌||◌, List, [], ◌∷◌, ◌++◌, length, Option, None, Some, refl, sym, ◌∙◌, ap, subst, inl, inr, append_assoc, add-one, length-append, arith}
-use Rattle.std.specs.Prelude.{◌==◌, ◌⊎◌, nat_lt, if◌then◌else◌}
-use Rattle.std.specs.List.{flat_map}
+use Rattle.std.proofs.Common.{◌≡◌, ◌≢◌, ℕ, zero, suc, ◌+◌, ◌<◌, ◌≤◌, Bool, true, false, ◌||◌, List, [], ◌∷◌, ◌++◌, length, Option, None, Some, refl, sym, ◌∙◌, ap, subst, inl, inr, add-one, length-append, arith}
+use Rattle.std.specs.Prelude.{◌==◌, nat_lt}
 use Rattle.std.proofs.Math.Nat.{eq-or-lt_of_le}
 use Rattle.std.proofs.lemmas.Bool.{eqb-true, ltb-true, lt-ltb}
 use Rattle.directive_text.specs.declared.tree.Directive.{Directive}
-use Rattle.directive_text.specs.Internals.Lexemes.{Token, end, between}
+use Rattle.directive_text.specs.Internals.Lexemes.{end, between}
 use Rattle.directive_text.specs.Internals.Tokens.{Fault, first_fault, fault_of}
-use Rattle.directive_text.specs.Spelling.{line_feeds, piece_text, Spells}
+use Rattle.directive_text.specs.Spelling.{line_feeds, Spells}
 use Rattle.directive_text.specs.Faults.{Reaches, HasFault, begin, too_short, ends_nothing, opens_nothing, closes_words, closes_nothing, follows_quote, opens_too_many}
 use Rattle.directive_text.specs.Faults as faults
 use Rattle.directive_text.proofs.Places.{tells}
@@ -15,7 +14,7 @@ use Rattle.directive_text.proofs.LastLine.{last-line}
 use Rattle.directive_text.proofs.Staying.{end_kind, faults-stay}
 use Rattle.directive_text.proofs.Printed.{semicolon-read, opening-read, closing-read, opening-fault, closing-fault}
 use Rattle.directive_text.proofs.Spelled.{gap-read, word-read, spells-says}
-use Rattle.directive_text.proofs.Split.{Behind, at_end, at_comment, at_byte, Skipped, skip, Lasts, BeginsWord, WordRest, Misplaced, word_rest, word_long, comment_end, misplaced_read}
+use Rattle.directive_text.proofs.Split.{Behind, at_end, at_comment, at_byte, skip, BeginsWord, word_rest, word_long, comment_end, misplaced_read}
 use Rattle.directive_text.proofs.Parsed.{sound-spelled}
 
 -- what is read up to a place has no fault

@@ -1,21 +1,17 @@
 -- A text without a fault spells a tree.
-use Rattle.std.proofs.Common.{◌≡◌, ◌≢◌, ℕ, zero, suc, ◌+◌, ◌<◌, ◌≤◌, Bool, true, false, not, ◌&&◌, ◌||◌, List, [], ◌∷◌, ◌++◌, length, Option, None, Some, refl, sym, ◌∙◌, ap, subst, inl, inr, append_assoc, append-nil, add-one, length-append, arith}
+use Rattle.std.proofs.Common.{◌≡◌, ◌≢◌, ℕ, zero, suc, ◌+◌, ◌<◌, ◌≤◌, Bool, true, false, List, [], ◌∷◌, ◌++◌, length, Option, None, Some, refl, sym, ◌∙◌, ap, subst, inl, inr, append_assoc, append-nil, length-append, arith}
 use Rattle.std.specs.Prelude.{◌==◌, ◌⊎◌, if◌then◌else◌, nat_lt}
-use Rattle.std.specs.List.{list_all, flat_map}
 use Rattle.std.proofs.lemmas.Bool.{eqb-true, lt-ltb}
-use Rattle.std.proofs.lemmas.List.Sums.{sum_by-cons}
 use Rattle.directive_text.specs.declared.tree.Directive.{Directive}
-use Rattle.directive_text.specs.Bytes.{is_blank, is_quote, may_follow, below, ends_plain}
 use Rattle.directive_text.specs.Internals.Lexemes.{Token, end, Rest, word_at, followed, between, plain, plain_pair, quoted, quoted_pair}
 use Rattle.directive_text.specs.Internals.Lexemes as lexemes
 use Rattle.directive_text.specs.Internals.Tokens.{Fault, first_fault}
-use Rattle.directive_text.specs.Spelling.{line_feeds, Piece, itself, escaped, piece_text, piece_value, stays_quoted, ends_before, begins_plain, WordText, GapText, nothing, blank, first, WordsText, no_word, one_word, DirectiveText, simple, block, DirectivesText, no_directive, one_directive, Spells, whole, in_comment}
-use Rattle.directive_text.specs.Spelling as spelling
-use Rattle.directive_text.proofs.Places.{or_false, tells, plain-byte, plain-backslash, between-plain, between-hash}
-use Rattle.directive_text.proofs.Spelled.{feeds-append, quote-read, word-read, gap-read, last_comment, tail_of, ahead_of, head-goes, directives-goes, directive-goes}
+use Rattle.directive_text.specs.Spelling.{line_feeds, WordText, GapText, first, WordsText, no_word, one_word, DirectiveText, simple, block, DirectivesText, no_directive, one_directive, Spells, whole, in_comment}
+use Rattle.directive_text.proofs.Places.{tells}
+use Rattle.directive_text.proofs.Spelled.{feeds-append, word-read, gap-read, tail_of, ahead_of, head-goes, directives-goes, directive-goes}
 use Rattle.directive_text.proofs.Printed.{semicolon-read, opening-read, closing-read}
 use Rattle.directive_text.proofs.Fitting.{no-fault, opening-kind}
-use Rattle.directive_text.proofs.Split.{Behind, at_end, at_comment, at_byte, Skipped, skip, Lasts, BeginsWord, WordRest, Misplaced, word_rest, word_long, comment_end, misplaced_read}
+use Rattle.directive_text.proofs.Split.{Behind, at_end, at_comment, at_byte, skip, BeginsWord, WordRest, word_rest, word_long, comment_end, misplaced_read}
 
 -- words up to the byte that ends them, `;` or `{`
 pub record WordsRest (bs : List ℕ) : Type 0 where

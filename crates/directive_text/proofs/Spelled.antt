@@ -1,12 +1,12 @@
 -- Each spelling of a tree reads as that tree.
-use Rattle.std.proofs.Common.{◌≡◌, ◌≢◌, ℕ, ◌+◌, ◌-◌, ◌<◌, Bool, true, false, not, ◌&&◌, ◌||◌, List, [], ◌∷◌, ◌++◌, None, Some, map, refl, sym, ◌∙◌, ap, subst, inl, inr, append_assoc, append-nil, add-zero, add_assoc, eq-eqb, arith}
+use Rattle.std.proofs.Common.{◌≡◌, ◌≢◌, ℕ, ◌+◌, ◌<◌, Bool, true, false, not, ◌||◌, List, [], ◌∷◌, ◌++◌, map, refl, sym, ◌∙◌, ap, subst, inl, inr, append_assoc, append-nil, add-zero, add_assoc, eq-eqb, arith}
 use Rattle.std.specs.Prelude.{◌==◌, if◌then◌else◌}
 use Rattle.std.specs.List.{list_all, flat_map}
 use Rattle.std.proofs.lemmas.Bool.{eqb-true}
 use Rattle.std.proofs.lemmas.List.Sums.{sum_by-cons, sum_by-append}
 use Rattle.directive_text.specs.declared.tree.Directive.{Directive}
 use Rattle.directive_text.specs.Bytes.{is_blank, is_quote, may_follow, below, unescaped, ends_plain}
-use Rattle.directive_text.specs.Internals.Lexemes.{word, end, kept, ends, word_at, followed, between, comment, plain, plain_pair, quoted, quoted_pair}
+use Rattle.directive_text.specs.Internals.Lexemes.{word, end, kept, ends, word_at, followed, between, comment, plain, quoted}
 use Rattle.directive_text.specs.Internals.Tokens.{first_fault}
 use Rattle.directive_text.specs.Marks.{Mark, begins, has, ended, opened, closed, directive_marks, marks_of}
 use Rattle.directive_text.specs.Internals.Tokens.{token_marks}

@@ -1,15 +1,15 @@
 -- What a text begins with: a gap, and a word or another byte.
-use Rattle.std.proofs.Common.{◌≡◌, ◌≢◌, ℕ, zero, suc, ◌+◌, ◌<◌, ◌≤◌, Bool, true, false, not, ◌&&◌, ◌||◌, List, [], ◌∷◌, ◌++◌, length, Option, None, Some, refl, sym, ◌∙◌, ap, subst, inl, inr, append_assoc, append-nil, add-one, length-append, arith}
-use Rattle.std.specs.Prelude.{◌==◌, ◌⊎◌, if◌then◌else◌, nat_lt}
+use Rattle.std.proofs.Common.{◌≡◌, ℕ, ◌+◌, ◌<◌, Bool, true, false, not, ◌||◌, List, [], ◌∷◌, ◌++◌, length, Some, refl, sym, ◌∙◌, ap, subst, inl, inr, append_assoc, arith}
+use Rattle.std.specs.Prelude.{◌==◌, ◌⊎◌, if◌then◌else◌}
 use Rattle.std.specs.List.{list_all, flat_map}
-use Rattle.std.proofs.lemmas.Bool.{eqb-true, lt-ltb}
+use Rattle.std.proofs.lemmas.Bool.{eqb-true}
 use Rattle.std.proofs.lemmas.List.Sums.{sum_by-cons}
 use Rattle.directive_text.specs.Bytes.{is_blank, is_quote, may_follow, below, ends_plain}
-use Rattle.directive_text.specs.Internals.Lexemes.{Token, end, misplaced, Rest, word_at, followed, between, plain, plain_pair, quoted, quoted_pair}
+use Rattle.directive_text.specs.Internals.Lexemes.{Token, end, misplaced, word_at, followed, between, plain, plain_pair, quoted, quoted_pair}
 use Rattle.directive_text.specs.Internals.Tokens.{Fault, first_fault}
 use Rattle.directive_text.specs.Spelling.{line_feeds, Piece, itself, escaped, piece_text, piece_value, stays_quoted, ends_before, begins_plain, WordText, GapText, nothing, blank}
 use Rattle.directive_text.specs.Spelling as spelling
-use Rattle.directive_text.proofs.Places.{or_false, tells, plain-byte, plain-backslash, between-plain, between-hash}
+use Rattle.directive_text.proofs.Places.{tells, plain-byte, plain-backslash, between-plain, between-hash}
 use Rattle.directive_text.proofs.Spelled.{quote-read, quoted-read, last_comment}
 
 -- what stands behind a gap: nothing, a comment that the text's end ends, or a byte that is in no gap

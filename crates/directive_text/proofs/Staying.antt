@@ -1,7 +1,7 @@
 -- A fault before the end of a text stays, whatever follows.
-use Rattle.std.proofs.Common.{◌≡◌, ◌≢◌, ℕ, ◌+◌, Bool, true, false, not, ◌&&◌, ◌||◌, List, [], ◌∷◌, ◌++◌, Option, None, Some, refl, sym}
+use Rattle.std.proofs.Common.{◌≡◌, ◌≢◌, ℕ, ◌+◌, Bool, true, false, not, ◌&&◌, ◌||◌, List, [], ◌∷◌, ◌++◌, Option, None, Some, sym}
 use Rattle.std.specs.Prelude.{◌==◌, if◌then◌else◌, nat_lt}
-use Rattle.directive_text.specs.Internals.Lexemes.{Token, Lexeme, word, semicolon, opening, closing, misplaced, end, Rest, followed, between, comment, plain, plain_pair, quoted, quoted_pair}
+use Rattle.directive_text.specs.Internals.Lexemes.{Token, word, end, Rest, followed, between, comment, plain, plain_pair, quoted, quoted_pair}
 use Rattle.directive_text.specs.Bytes.{is_blank, is_quote, may_follow, below}
 use Rattle.directive_text.specs.Internals.Tokens.{Fault, kind_at, blocks_after, is_word, first_fault}
 

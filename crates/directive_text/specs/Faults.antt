@@ -1,5 +1,5 @@
 -- The first fault of a text.
-use Rattle.std.specs.Prelude.{◌≡◌, ℕ, ◌+◌, ◌<◌, true, false, Bool, IsTrue, List, ◌∷◌, [], ◌++◌}
+use Rattle.std.specs.Prelude.{ℕ, ◌+◌, ◌<◌, true, false, Bool, IsTrue, List, ◌∷◌, ◌++◌}
 use Rattle.std.specs.Bool.{IsFalse}
 use Rattle.std.specs.List.{list_all, flat_map}
 use Rattle.directive_text.specs.declared.tree.Directive.{Directive}

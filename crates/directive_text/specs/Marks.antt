@@ -1,5 +1,5 @@
 -- A tree written out flat, as what its text says in order.
-use Rattle.std.specs.Prelude.{ℕ, Bool, List, [], ◌∷◌, ◌++◌, Option, None, Some, map, if◌then◌else◌}
+use Rattle.std.specs.Prelude.{ℕ, List, [], ◌∷◌, ◌++◌, Option, None, Some, map}
 use Rattle.directive_text.specs.declared.tree.Directive.{Directive}
 use Rattle.directive_text.specs.declared.tree.Directive.TheOpen.{Directive-F}
 use Rattle.directive_text.specs.declared.tree.Directive.TheFolds.{fold-Directive}
