@@ -2,7 +2,7 @@ use zone_outside::Text;
 
 /// What a place of a text says.
 #[derive(Debug, Drop)]
-pub(crate) enum Lexeme {
+pub(crate) enum Symbol {
     /// A word, by its value.
     Word(Text),
     /// `;`
@@ -17,9 +17,9 @@ pub(crate) enum Lexeme {
     End,
 }
 
-/// A lexeme with the line of its first byte, counted from 1.
+/// A symbol with the line of its first byte, counted from 1.
 #[derive(Debug, Drop)]
-pub(crate) struct Token {
+pub(crate) struct PlacedSymbol {
     pub line: u64,
-    pub lexeme: Lexeme,
+    pub symbol: Symbol,
 }

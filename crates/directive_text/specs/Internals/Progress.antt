@@ -22,7 +22,7 @@ pending_marks line (w ∷ ws) = begins line ∷ map has (w ∷ ws)
 
 -- the marks of an open block's directive, and of what stands before it
 abbrev pub frame_marks : Frame → List Mark
-frame_marks f = marks_of f.before ++ (begins f.line ∷ map has f.words ++ opened ∷ [])
+frame_marks f = marks_of f.before.items ++ (begins f.line ∷ map has f.words ++ opened ∷ [])
 
 -- what is read: open blocks, outermost first, the directives of the innermost, and pending words
 abbrev pub progress_of : List Frame → List Directive → ℕ → List (List ℕ) → Progress
