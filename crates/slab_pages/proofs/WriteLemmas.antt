@@ -3,8 +3,8 @@ use Rattle.std.proofs.Common.{ℕ, ◌≡◌, ◌≢◌, ◌+◌, ◌-◌, ◌/�
 use Rattle.std.proofs.lemmas.List.{length-set}
 use Rattle.std.proofs.lemmas.Bool.{cases_eq}
 use Rattle.slab_model.specs.declared.runs.Run.{Run}
-use Rattle.slab_pages.specs.Places.{free_head, descriptor, HasWords, IsDescriptorOffset, Links, descriptor_word}
-use Rattle.slab_pages.specs.RunSteps.{SetsWords, FillsRun, BeginsRun}
+use Rattle.slab_pages.specs.Places.{free_head, descriptor, HasWords, IsDescriptorOffset, descriptor_word}
+use Rattle.slab_pages.specs.RunSteps.{Links, SetsWords, FillsRun, BeginsRun}
 use Rattle.slab_pages.proofs.PlaceLemmas.{descriptor-word, descriptor-other, places_apart, HasWords-kept, SetsWords-other}
 
 -- a word that isn't written stays
