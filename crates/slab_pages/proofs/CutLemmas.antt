@@ -5,9 +5,9 @@ use Rattle.std.proofs.lemmas.Bool.{cases_eq}
 use Rattle.slab_model.specs.declared.runs.Run.{Run}
 use Rattle.slab_model.specs.Runs.{AreSound, pages_from, first_fit, cut_run, take_run}
 use Rattle.slab_model.proofs.RunLemmas.{AreSound-take}
-use Rattle.slab_pages.specs.Places.{free_head, pfree_word, descriptor, slab_at, next_at, prev_at, IsDescriptorOffset, Links}
+use Rattle.slab_pages.specs.Places.{free_head, pfree_word, descriptor, slab_at, next_at, prev_at, IsDescriptorOffset}
 use Rattle.slab_pages.specs.Layout.{LaysFrom}
-use Rattle.slab_pages.specs.RunSteps.{LaysList, IsBlank, BeginsRun, Relists, Unlinks, change, without_run}
+use Rattle.slab_pages.specs.RunSteps.{Links, LaysList, IsBlank, BeginsRun, Relists, Unlinks, change, without_run}
 use Rattle.slab_pages.proofs.PlaceLemmas.{descriptor-head, descriptor-other, SameWords-then, Links-slab, Links-next, Links-prev, Links-prev_head}
 use Rattle.slab_pages.proofs.ListLemmas.{pages_from-here, pages_from-covers, pages_from-beyond, HasTail-kept, covered-rest, Near, Outside, relink, relaid}
 use Rattle.slab_pages.proofs.UnlinkLemmas.{run_at, IsNode, node_place, node_before, node_after, before_beyond, after_beyond, near_here, links_free, links_kept, kept_then}

@@ -56,9 +56,6 @@ get-zeros (suc n) zero x = refl
 get-zeros (suc n) (suc i) x = get-zeros n i x
 
 -- one more head is written
-pub heads_none : (words : List ℕ) → WritesHeads words words 0
-heads_none words = record { same_length = refl; heads = λ class low. absurd (omega (arith, low)); others = λ w far. refl }
-
 pub heads_more : (old mid new : List ℕ) (count : ℕ) → WritesHeads old mid count → head_word count + 1 < length mid → new ≡ set mid (head_word count + 1) (class_head count) → WritesHeads old new (count + 1)
 heads_more old mid new count h room is = record {
   same_length = length-written mid new (head_word count + 1) (class_head count) is ∙ h.same_length;

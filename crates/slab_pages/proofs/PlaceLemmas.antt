@@ -2,8 +2,8 @@
 use Rattle.std.proofs.Common.{ℕ, ◌≡◌, ◌≢◌, ◌⊎◌, ◌+◌, ◌/◌, ◌≤◌, List, sym, ap, subst, ◌∙◌, refl, arith, inl, inr}
 use Rattle.std.proofs.lemmas.Bool.{cases_lt, cases_eq}
 use Rattle.slab_pages.specs.Frames.{SameWords}
-use Rattle.slab_pages.specs.RunSteps.{SetsWords}
-use Rattle.slab_pages.specs.Places.{free_head, descriptor, slab_at, next_at, prev_at, HasWords, IsDescriptorOffset, Links, descriptor_word}
+use Rattle.slab_pages.specs.RunSteps.{Links, SetsWords}
+use Rattle.slab_pages.specs.Places.{free_head, descriptor, slab_at, next_at, prev_at, HasWords, IsDescriptorOffset, descriptor_word}
 
 pub descriptor-word : (page : ℕ) → descriptor page / 8 ≡ descriptor_word page
 unfolding descriptor

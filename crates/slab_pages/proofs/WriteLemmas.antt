@@ -3,8 +3,8 @@ use Rattle.std.proofs.Common.{ℕ, ◌≡◌, ◌≢◌, ◌+◌, ◌-◌, ◌/�
 use Rattle.std.proofs.lemmas.List.{length-set}
 use Rattle.std.proofs.lemmas.Bool.{cases_eq}
 use Rattle.slab_model.specs.declared.runs.Run.{Run}
-use Rattle.slab_pages.specs.Places.{free_head, descriptor, HasWords, IsDescriptorOffset, Links, descriptor_word}
-use Rattle.slab_pages.specs.RunSteps.{SetsWords, FillsRun, BeginsRun}
+use Rattle.slab_pages.specs.Places.{free_head, descriptor, HasWords, IsDescriptorOffset, descriptor_word}
+use Rattle.slab_pages.specs.RunSteps.{Links, SetsWords, FillsRun, BeginsRun}
 use Rattle.slab_pages.proofs.PlaceLemmas.{descriptor-word, descriptor-other, places_apart, HasWords-kept, SetsWords-other}
 
 -- a word that isn't written stays
@@ -47,9 +47,6 @@ link_to_page old mid new a b fits fits2 nh pa pb is is2 = record {
   ]
 
 -- one more descriptor is filled
-pub fills_none : (words : List ℕ) (first slab : ℕ) → FillsRun words words first 0 slab
-fills_none words first slab = record { same_length = refl; filled = λ page low high. absurd (omega (arith, low, high)); others = λ w far. refl }
-
 pub fills_more : (old mid new : List ℕ) (first count slab page : ℕ) → page ≡ first + count → FillsRun old mid first count slab → SetsWords mid new (descriptor page) slab 0 0 → FillsRun old new first (count + 1) slab
 fills_more old mid new first count slab page at filled sets = record {
   same_length = sets.same_length ∙ filled.same_length;

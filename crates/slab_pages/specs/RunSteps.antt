@@ -1,5 +1,5 @@
 -- What the steps of taking and giving back a run leave in the words.
-use Rattle.std.specs.Prelude.{ℕ, ◌≡◌, ◌⊎◌, ◌+◌, ◌-◌, ◌/◌, ◌<◌, ◌≤◌, false, nat_eq, List, [], ◌∷◌, length, slice_index, if◌then◌else◌}
+use Rattle.std.specs.Prelude.{ℕ, ◌≡◌, ◌≢◌, ◌⊎◌, ◌+◌, ◌-◌, ◌/◌, ◌<◌, ◌≤◌, false, nat_eq, List, [], ◌∷◌, length, slice_index, if◌then◌else◌}
 use Rattle.slab_model.specs.declared.runs.Run.{Run}
 use Rattle.slab_model.specs.Runs.{IsRunApart, AreSound, is_covered, pages_from, pages_before, take_run, give_run}
 use Rattle.slab_pages.specs.Places.{free_head, pfree_word, descriptor, slab_at, next_at, prev_at, HasWords, KeepsOthers, page_limit, descriptor_word}
@@ -14,6 +14,14 @@ pub record LaysList (count : ℕ) (words : List ℕ) (runs : List Run) : Type 0 
   pub slab_is : slab_at words free_head ≡ 0
   pub prev_is : prev_at words free_head ≡ 0
   pub linked : LaysFrom words free_head runs
+
+-- the descriptor at `b` follows the one at `a` in a list, and the head has no word that points back
+pub record Links (old new : List ℕ) (a b : ℕ) : Type 0 where
+  pub same_length : length new ≡ length old
+  pub next : next_at new a ≡ b
+  pub prev : b ≢ free_head → prev_at new b ≡ a
+  pub head : b ≡ free_head → prev_at new b ≡ prev_at old b
+  pub others : (w : ℕ) → w ≢ a / 8 + 1 → w ≢ b / 8 + 2 → slice_index new w ≡ slice_index old w
 
 -- the descriptor at `o` has these words, and nothing else changed
 pub record SetsWords (old new : List ℕ) (o slab next prev : ℕ) : Type 0 where

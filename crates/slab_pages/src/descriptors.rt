@@ -1,7 +1,7 @@
 ghost use Rattle.std.specs.Prelude.{◌≡◌, ℕ, ◌+◌, ◌*◌, ◌-◌, ◌/◌, ◌<◌, ◌≤◌, length, slice_set};
 ghost use Rattle.slab_model.specs.declared.runs.Run.{Run};
-ghost use Rattle.slab_pages.specs.Places.{IsDescriptorOffset, Links, page_limit, descriptor_word, descriptor, next_at, prev_at, slab_at};
-ghost use Rattle.slab_pages.specs.RunSteps.{FillsRun, SetsWords, BeginsRun};
+ghost use Rattle.slab_pages.specs.Places.{IsDescriptorOffset, page_limit, descriptor_word, descriptor, next_at, prev_at, slab_at};
+ghost use Rattle.slab_pages.specs.RunSteps.{Links, FillsRun, SetsWords, BeginsRun};
 
 use crate::places::{FREE_HEAD, byte_offset, descriptor_at};
 use zone_region::Region;
