@@ -9,6 +9,7 @@ mod one;
 mod output;
 mod prepare;
 mod run;
+mod status;
 mod stop;
 mod tell;
 #[cfg(test)]
@@ -17,6 +18,7 @@ mod text;
 mod words;
 
 use run::run;
+use status::Status;
 use std::alloc::Global;
 use std::process::ExitCode;
 use std::rt::Env;
@@ -41,7 +43,7 @@ fn words_of(rt: &(impl Env + AllocGlobal)) -> Result<Vec<Text>, NoMemory> {
 fn main(rt: HostRuntime) -> ExitCode {
     let alloc = rt.alloc();
     let Ok(words) = words_of(&rt) else {
-        return ExitCode::from(7);
+        return ExitCode::from(Status::NoMemory.code());
     };
     let mut files = FileShelf::of(&rt);
     let mut out = StdSink::of(rt.stdout());
