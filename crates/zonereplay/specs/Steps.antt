@@ -1,5 +1,5 @@
 -- The steps of a command: it reads its texts, prepares all that it writes, and concludes.
-use Rattle.std.specs.Prelude.{ℕ, ◌≡◌, ◌≤◌, ◌⊎◌, List, length, Option, Result, Ok, Err, MatchResult}
+use Rattle.std.specs.Prelude.{ℕ, ◌≡◌, ◌≤◌, ◌⊎◌, List, [], length, Option, Result, Ok, Err, MatchResult}
 use Rattle.std.specs.List.{concat}
 use Rattle.std.specs.declared.vec.Vec.{Vec}
 use Rattle.std.specs.declared.alloc.Global.{Global}
@@ -15,6 +15,8 @@ use Rattle.zonereplay.specs.Plan.Plan.{reads}
 use Rattle.zonereplay.specs.Plan.End.{written}
 use Rattle.zonereplay.specs.Devices.{Files, Taken, FilesCalm, TakesWhole, TakesNone, TakesPart, TakesFault, Tries, write_fault}
 use Rattle.zonereplay.specs.Answers.{Stops}
+use Rattle.zone_outside.specs.Buffers.{Buffer}
+use Rattle.zone_outside.specs.Faults.{Rose}
 
 -- the files hold what they held, and no count of them fell
 pub record FilesKept (before after : Files) : Type 0 where
@@ -71,3 +73,11 @@ Wrote lines answer out out_after err err_after =
 abbrev pub Concludes : Result (Vec (List ℕ) Global) Stop → Status → Taken → Taken → Taken → Taken → Type 0
 Concludes (Ok lines) answer out out_after err err_after = Wrote lines.items answer out out_after err err_after
 Concludes (Err why) answer out out_after err err_after = TakesNone out out_after × StopTold why answer err err_after
+
+-- ---- closing
+
+-- after this number all that standard output kept was handed on, or a failed write changes nothing more; or the job was done, a write failed, and standard error was told so, if it took that
+abbrev pub Closes : ℕ → ℕ → Buffer → Buffer → Taken → Taken → Type 0
+Closes number answer out out_after err err_after =
+    ((answer ≡ number) × (number ≡ 0 → out_after.kept ≡ []) × TakesNone err err_after)
+    ⊎ ((number ≡ 0) × (answer ≡ 5) × Rose out.faults out_after.faults × Tries err err_after write_fault)

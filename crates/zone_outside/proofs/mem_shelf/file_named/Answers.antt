@@ -2,7 +2,7 @@
 use Rattle.std.proofs.Common.{ap, ◌∙◌}
 use Rattle.std.specs.Option.{option_map}
 use Rattle.zone_outside.proofs.ShelfLemmas.{text-copied, file_text-files}
-use Rattle.zone_outside.proofs.memory.file_named.Goals as goal
+use Rattle.zone_outside.proofs.mem_shelf.file_named.Goals as goal
 
 pub returns : goal.returns
 returns c =

@@ -1,4 +1,4 @@
--- The devices in memory, as contracts see them.
+-- Texts and sources in memory.
 use Rattle.std.specs.Prelude.{ℕ, zero, suc, List, [], ◌++◌}
 
 -- so many copies of a text, one after another
@@ -24,23 +24,3 @@ pub record Source : Type 0 where
 -- a text under a name, of which nothing has been read
 abbrev pub source_of : List ℕ → Text → Source
 source_of name text = record { name = name; left = text.bytes; most = text.most; failing = text.failing; reads = 0; faults = 0 }
-
--- a sink in memory: the bytes taken, how many a write takes at most, the numbers of the writes that fail, and its counts of writes and faults
-pub record Sink : Type 0 where
-  pub taken : List ℕ
-  pub most : ℕ
-  pub failing : List ℕ
-  pub writes : ℕ
-  pub faults : ℕ
-
--- a name, and the text that it names
-pub record File : Type 0 where
-  pub name : List ℕ
-  pub text : Text
-
--- a shelf in memory: its files, the numbers of the opens that fail, and its counts of opens and faults
-pub record Shelf : Type 0 where
-  pub files : List File
-  pub failing : List ℕ
-  pub opens : ℕ
-  pub faults : ℕ

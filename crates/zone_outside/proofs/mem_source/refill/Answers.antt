@@ -2,9 +2,9 @@
 use Rattle.std.proofs.Common.{rules, length, ◌≡◌, [], ◌++◌, sym, ap, ◌∙◌, arith}
 use Rattle.std.proofs.lemmas.List.{nil_from_length}
 use Rattle.std.proofs.lemmas.Bool.Decides.{nat_tests}
-use Rattle.zone_outside.specs.Memory.{repeated}
+use Rattle.zone_outside.specs.MemSources.{repeated}
 use Rattle.zone_outside.proofs.RepeatedLemmas.{repeated-none, repeated-first, repeated-nil}
-use Rattle.zone_outside.proofs.memory.refill.Goals as goal
+use Rattle.zone_outside.proofs.mem_source.refill.Goals as goal
 
 pub returns-then-copies-gt0-clause-same : goal.returns-then-copies-gt0-clause-same
 returns-then-copies-gt0-clause-same c =

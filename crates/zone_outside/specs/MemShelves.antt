@@ -1,9 +1,21 @@
--- Texts in memory by their names.
+-- Shelves in memory: texts by their names.
 use Rattle.std.specs.Prelude.{ℕ, nat_eq, List, Option, find, map}
 use Rattle.std.specs.Option.{option_map}
 use Rattle.std.specs.Cmp.Lexicographic.{pointwise}
-use Rattle.zone_outside.specs.Memory.{File, Source, Text, source_of}
-use Rattle.zone_outside.specs.declared.memory.MemFile.{MemFile}
+use Rattle.zone_outside.specs.MemSources.{Source, Text, source_of}
+use Rattle.zone_outside.specs.declared.mem_shelf.MemFile.{MemFile}
+
+-- a name, and the text that it names
+pub record File : Type 0 where
+  pub name : List ℕ
+  pub text : Text
+
+-- a shelf in memory: its files, the numbers of the opens that fail, and its counts of opens and faults
+pub record Shelf : Type 0 where
+  pub files : List File
+  pub failing : List ℕ
+  pub opens : ℕ
+  pub faults : ℕ
 
 -- the text of the first file of this name
 abbrev pub file_text : List ℕ → List File → Option Text

@@ -1,7 +1,7 @@
 -- No copy follows the bytes.
 use Rattle.std.proofs.Common.{◌++◌, [], refl, ap, ◌∙◌, append-nil}
 use Rattle.zone_outside.proofs.RepeatedLemmas.{repeated-none}
-use Rattle.zone_outside.proofs.memory.MemText.of.Goals as goal
+use Rattle.zone_outside.proofs.mem_source.MemText.of.Goals as goal
 
 pub returns-clause-bytes : goal.returns-clause-bytes
 returns-clause-bytes c =
