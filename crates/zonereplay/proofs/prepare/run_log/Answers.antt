@@ -18,5 +18,6 @@ returns-in-Ok-lines_of c =
           ends = subst (λ (p : Plan). Ends files.contents p (written told)) (sym (ap (one_run job) c.in-Ok.ensures.value)) refl;
           shown = c.in-Ok-lines_of.ensures;
         },
-        λ name. refl);
+        λ name. refl,
+      );
     }

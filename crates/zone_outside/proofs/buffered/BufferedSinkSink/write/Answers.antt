@@ -24,7 +24,7 @@ returns-clause-bytes g c =
     let more = kept_more old added rest s.start s.end count (omega (arith, c.self.invariant)) (omega (arith, c.self.invariant, c.deref_mut.ensures.len)) many in
     let same = subst (λ (new : Buffer). Keeps (taken_by c.args.self.now) (taken_by new)) (sym c.self.view_is) c.in-Ok.ensures.same in
     append_known-grown (taken_by c.args.self.now) (g.K.Sink.taken s.to) kept _ (take count c.args.piece.now) same
-      (ap (λ (items : List ℕ). take (s.end + count - s.start) (drop s.start items)) filled
-      ∙ more
-      ∙ ap (λ (items : List ℕ). take (s.end - s.start) (drop s.start items) ++ added) c.deref_mut.ensures.value
-      ∙ ap (λ (l : List ℕ). kept ++ l) c.copy_from_slice.ensures.after)
+    (ap (λ (items : List ℕ). take (s.end + count - s.start) (drop s.start items)) filled
+    ∙ more
+    ∙ ap (λ (items : List ℕ). take (s.end - s.start) (drop s.start items) ++ added) c.deref_mut.ensures.value
+    ∙ ap (λ (l : List ℕ). kept ++ l) c.copy_from_slice.ensures.after)
