@@ -2,7 +2,7 @@
 use Rattle.std.specs.Prelude.{ℕ, List}
 
 -- a sink in memory: the bytes taken, how many a write takes at most, the numbers of the writes that fail, and its counts of writes and faults
-pub record Sink : Type 0 where
+pub record SinkState : Type 0 where
   pub taken : List ℕ
   pub most : ℕ
   pub failing : List ℕ

@@ -2,7 +2,7 @@ ghost use Rattle.std.specs.Prelude.{◌≡◌, ◌≢◌, ℕ, ◌+◌, ◌-◌,
 ghost use Rattle.std.specs.Cmp.Lexicographic.{pointwise};
 ghost use Rattle.std.specs.Option.{option_copied, option_map};
 ghost use Rattle.zone_outside.specs.Faults.{Rose};
-ghost use Rattle.zone_outside.specs.MemShelves.{file_text, files_of, opened, text_named};
+ghost use Rattle.zone_outside.specs.MemShelves.{file_text, files_of, source_named, text_named};
 
 use crate::devices::Shelf;
 use crate::errors::{Failed, count_fault};
@@ -30,9 +30,9 @@ pub struct MemShelf<'a> {
 }
 
 impl<'a> Model for MemShelf<'a> {
-    ghost use Rattle.zone_outside.specs.MemShelves.{Shelf as State, files_of};
+    ghost use Rattle.zone_outside.specs.MemShelves.{ShelfState, files_of};
 
-    ghost Value = { State };
+    ghost Value = { ShelfState };
 
     ghost view = { λ s. record {
       files = files_of s.files.now;
@@ -70,7 +70,7 @@ impl<'a> Shelf for MemShelf<'a> {
         ensures named { IfOk result (λ item. item.name ≡ name) }
         ensures whole { IfOk result (λ item. Some item.left ≡ text_named name self.old.files) }
         ensures fresh { IfOk result (λ item. item.faults ≡ 0) }
-        ensures item { IfOk result (λ item. Some item ≡ opened name self.old.files) }
+        ensures item { IfOk result (λ item. Some item ≡ source_named name self.old.files) }
         ensures calm { OnOk result (List ℕ → self.new.faults ≡ self.old.faults) }
         ensures failed { OnErr result (Rose self.old.faults self.new.faults) }
         ensures failing { Contains self.old.failing self.new.opens → IsErr result }

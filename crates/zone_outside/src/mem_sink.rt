@@ -21,9 +21,9 @@ pub struct MemSink<'a> {
 
 impl<'a> Model for MemSink<'a> {
     ghost use Rattle.std.specs.Prelude.{◌<◌};
-    ghost use Rattle.zone_outside.specs.MemSinks.{Sink as State};
+    ghost use Rattle.zone_outside.specs.MemSinks.{SinkState};
 
-    ghost Value = { State };
+    ghost Value = { SinkState };
 
     ghost view = { λ s. record {
       taken = s.taken.items;

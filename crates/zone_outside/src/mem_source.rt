@@ -21,9 +21,9 @@ pub struct MemText<'a> {
 
 impl<'a> Model for MemText<'a> {
     ghost use Rattle.std.specs.Prelude.{◌++◌, ◌<◌};
-    ghost use Rattle.zone_outside.specs.MemSources.{Text as Parts, repeated};
+    ghost use Rattle.zone_outside.specs.MemSources.{SourceText, repeated};
 
-    ghost Value = { Parts };
+    ghost Value = { SourceText };
 
     ghost view = { λ t. record {
       bytes = t.front.now ++ repeated t.copies t.piece.now;
@@ -108,9 +108,9 @@ pub struct MemSource<'a> {
 
 impl<'a> Model for MemSource<'a> {
     ghost use Rattle.std.specs.Prelude.{◌++◌, ◌<◌};
-    ghost use Rattle.zone_outside.specs.MemSources.{Source as State, repeated};
+    ghost use Rattle.zone_outside.specs.MemSources.{SourceState, repeated};
 
-    ghost Value = { State };
+    ghost Value = { SourceState };
 
     ghost view = { λ s. record {
       name = s.name;

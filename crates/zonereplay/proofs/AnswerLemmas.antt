@@ -16,7 +16,7 @@ use Rattle.zonereplay.specs.Plan.Plan.{refuses}
 use Rattle.zonereplay.specs.Plan.End.{refused}
 use Rattle.zonereplay.specs.Devices.{Taken, Files, Devices, FilesCalm, TakesWhole, TakesNone, TakesFault}
 use Rattle.zonereplay.specs.Answers.{Stops, Stopped, Says, IsFree, Does}
-use Rattle.zonereplay.specs.Steps.{LineTold, Wants, StopTold, Wrote, Concludes, FilesKept, Prints, Prepares}
+use Rattle.zonereplay.specs.Stages.{LineTold, Wants, StopTold, Wrote, Concludes, FilesKept, Prints, Prepares}
 
 known_kept : (known : Option (List ℕ)) → Keeps known known
 known_kept None = tt

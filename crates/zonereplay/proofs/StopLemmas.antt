@@ -16,7 +16,7 @@ use Rattle.zonereplay.specs.Plan.Plan.{refuses, reads}
 use Rattle.zonereplay.specs.Plan.End.{refused, written}
 use Rattle.zonereplay.specs.Devices.{Files, FilesCalm}
 use Rattle.zonereplay.specs.Answers.{Stops, Unread}
-use Rattle.zonereplay.specs.Steps.{FilesKept, IsTextOf, ReadsText, Prints, Prepares}
+use Rattle.zonereplay.specs.Stages.{FilesKept, IsTextOf, ReadsText, Prints, Prepares}
 
 -- there is a text longer than n
 long_text : (n : ℕ) → (text : List ℕ) × (n < length text)

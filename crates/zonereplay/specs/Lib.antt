@@ -8,5 +8,5 @@ pub mod Told
 pub mod Plan
 pub mod Devices
 pub mod Answers
-pub mod Steps
+pub mod Stages
 pub mod Jobs

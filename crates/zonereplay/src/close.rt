@@ -1,6 +1,6 @@
 ghost use Rattle.std.specs.Io.KnownBytes.{Keeps};
 ghost use Rattle.zone_outside.specs.Buffers.{taken_by};
-ghost use Rattle.zonereplay.specs.Steps.{Closes};
+ghost use Rattle.zonereplay.specs.Stages.{Closes};
 
 use crate::tell::tell_write_fault;
 use zone_outside::{BufferedSink, Sink};

@@ -2,7 +2,7 @@ ghost use Rattle.std.specs.Prelude.{IsSome};
 ghost use Rattle.zonereplay.specs.Words.{one_of};
 ghost use Rattle.zonereplay.specs.Plan.{plan_of};
 ghost use Rattle.zonereplay.specs.Answers.{Does};
-ghost use Rattle.zonereplay.specs.Steps.{Concludes};
+ghost use Rattle.zonereplay.specs.Stages.{Concludes};
 
 use crate::output::write_lines;
 use crate::prepare::prepare_one;

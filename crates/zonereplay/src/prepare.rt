@@ -2,7 +2,7 @@ ghost use Rattle.zonereplay.specs.Keys.{keys_of};
 ghost use Rattle.zonereplay.specs.Jobs.{asked};
 ghost use Rattle.zonereplay.specs.Plan.{one_plan, one_run};
 ghost use Rattle.zonereplay.specs.Devices.{Files};
-ghost use Rattle.zonereplay.specs.Steps.{Prepares, ReadsText};
+ghost use Rattle.zonereplay.specs.Stages.{Prepares, ReadsText};
 
 use crate::job::Job;
 use crate::keys::{LogFault, read_keys};

@@ -1,7 +1,7 @@
 ghost use Rattle.std.specs.Prelude.{◌≡◌, ◌++◌, OnOk, OnErr, IfOk};
 ghost use Rattle.zonereplay.specs.Stops.{line_of};
 ghost use Rattle.zonereplay.specs.Devices.{Tries, write_fault};
-ghost use Rattle.zonereplay.specs.Steps.{LineTold, StopTold};
+ghost use Rattle.zonereplay.specs.Stages.{LineTold, StopTold};
 ghost use Rattle.zonereplay.specs.declared.stop.Refusal.TheVariants.{Log};
 ghost use Rattle.zonereplay.specs.declared.stop.Stop.TheVariants.{Refused};
 

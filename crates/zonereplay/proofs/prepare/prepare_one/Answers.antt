@@ -3,7 +3,7 @@ use Rattle.zonereplay.specs.Jobs.{asked}
 use Rattle.zonereplay.specs.Keys.{keys_of}
 use Rattle.zonereplay.specs.Plan.{Plan, one_run}
 use Rattle.zonereplay.specs.Devices.{Files}
-use Rattle.zonereplay.specs.Steps.{Prepares}
+use Rattle.zonereplay.specs.Stages.{Prepares}
 use Rattle.zonereplay.proofs.StopLemmas.{read_prepares, read_stopped}
 use Rattle.zonereplay.proofs.prepare.prepare_one.Goals as goal
 

@@ -1,4 +1,4 @@
--- The steps of a command: it reads its texts, prepares all that it writes, and concludes.
+-- The stages of a command: it reads its texts, prepares all that it writes, and concludes.
 use Rattle.std.specs.Prelude.{ℕ, ◌≡◌, ◌≤◌, ◌⊎◌, List, [], length, Option, Result, Ok, Err, MatchResult}
 use Rattle.std.specs.List.{concat}
 use Rattle.std.specs.declared.vec.Vec.{Vec}
