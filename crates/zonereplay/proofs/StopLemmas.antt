@@ -1,5 +1,5 @@
 -- Plans and where they stop.
-use Rattle.std.proofs.Common.{ℕ, ◌≡◌, ◌<◌, ◌≤◌, Bool, true, false, cond, ltb, List, length, replicate, Option, Some, None, Result, Ok, Err, arith, ap, sym, subst, refl, suc, inl, inr, ◌∙◌}
+use Rattle.std.proofs.Common.{ℕ, ◌≡◌, ◌<◌, ◌≤◌, cond, List, length, replicate, Option, Some, None, Result, Ok, Err, arith, ap, sym, subst, refl, suc, inl, inr, ◌∙◌}
 use Rattle.std.specs.Prelude.{IfSome}
 use Rattle.std.specs.declared.vec.Vec.{Vec}
 use Rattle.std.specs.declared.alloc.Global.{Global}
@@ -7,16 +7,15 @@ use Rattle.std.proofs.lemmas.Bool.{lt-ltb, le-ltb}
 use Rattle.std.proofs.lemmas.List.{length-replicate}
 use Rattle.std.proofs.Math.Path.{fun_ext}
 use Rattle.zone_outside.specs.Faults.{Rose}
-use Rattle.zonereplay.specs.declared.stop.Refusal.{Refusal}
-use Rattle.zonereplay.specs.declared.stop.Refusal.TheVariants.{Usage, TooLong, Log}
+use Rattle.zonereplay.specs.declared.stop.Refusal.TheVariants.{TooLong}
 use Rattle.zonereplay.specs.declared.stop.Stop.{Stop}
 use Rattle.zonereplay.specs.declared.stop.Stop.TheVariants.{Refused, ReadFault, NoMemory}
 use Rattle.zonereplay.specs.Plan.{Plan, End, Ends, Reaches, MayHold, text_limit, in_limit}
 use Rattle.zonereplay.specs.Plan.Plan.{refuses, reads}
 use Rattle.zonereplay.specs.Plan.End.{refused, written}
 use Rattle.zonereplay.specs.Devices.{Files, FilesCalm}
-use Rattle.zonereplay.specs.Answers.{Stops, Unread}
-use Rattle.zonereplay.specs.Stages.{FilesKept, IsTextOf, ReadsText, Prints, Prepares}
+use Rattle.zonereplay.specs.Answers.{Stops}
+use Rattle.zonereplay.specs.Stages.{FilesKept, IsTextOf, ReadsText, Prepares}
 
 -- there is a text longer than n
 long_text : (n : ℕ) → (text : List ℕ) × (n < length text)

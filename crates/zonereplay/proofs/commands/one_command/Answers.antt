@@ -1,4 +1,4 @@
-use Rattle.std.proofs.Common.{ℕ, ap, sym, subst}
+use Rattle.std.proofs.Common.{ap, sym, subst}
 use Rattle.zonereplay.specs.Jobs.{asked}
 use Rattle.zonereplay.specs.Plan.{Plan, plan_for, one_plan}
 use Rattle.zonereplay.specs.Devices.{Devices}
