@@ -7,7 +7,7 @@ use Rattle.zone_region.specs.Holding.{HoldsBlocks}
 use Rattle.zone_region.proofs.MembersLemmas.{In-append_left, In-append_right, In-split}
 use Rattle.offset_queue.specs.declared.queue.Queue.{Queue}
 use Rattle.offset_queue.specs.Queue.{offset_of, head_joint, AreLinked, HasLinks, IsQueue, ChangesLinks}
-use Rattle.offset_queue.specs.Joining.{IsJoint, joint_from, Joins}
+use Rattle.offset_queue.specs.Inside.{IsJoint, joint_from, Joins}
 use Rattle.offset_queue.proofs.Chains.{front_of, back_of, chain_front, chain_back, chain_split, back_in}
 
 -- the block of a joint is one of the queue's

@@ -6,7 +6,7 @@ use Rattle.zone_region.proofs.HoldingLemmas.{holds_some, holds_kept, holds_one}
 use Rattle.zone_region.proofs.MembersLemmas.{In-append_left, In-append_right, In-more, In-moved, In-middle, IsDistinct-split, IsDistinct-moved}
 use Rattle.offset_queue.specs.declared.queue.Queue.{Queue}
 use Rattle.offset_queue.specs.Queue.{head_joint, AreLinked, HasLinks, IsHead, IsQueue, CanPush, ChangesLinks}
-use Rattle.offset_queue.specs.Joining.{IsJoint, Joins}
+use Rattle.offset_queue.specs.Inside.{IsJoint, Joins}
 use Rattle.offset_queue.proofs.Chains.{front_of, back_of, chain_split, chain_joined, chain_onward, linked_kept}
 use Rattle.offset_queue.proofs.Joints.{joint_more, front_joint, back_joint, keeps_next, keeps_prev, joins_links}
 

@@ -11,9 +11,6 @@ use Rattle.offset_tree.proofs.Keeping.{kept_tree, kept_request_nodes}
 use Rattle.offset_table.specs.declared.table.Table.{Table}
 use Rattle.offset_table.specs.Table.{request_form, tree_of, queue_of, ChangesTable}
 
-pub is_form : IsForm request_form
-is_form = record { len_place = inl (refl, refl, refl) }
-
 -- what changes links of a queue keeps the tree
 pub queue_keeps_tree : (m n : Words) (t : Table) (xs sorted : List ℕ) → ChangesLinks m n (queue_of t) 5 xs → IsTree m (tree_of t) sorted → IsTree n (tree_of t) sorted
 queue_keeps_tree m n t xs sorted c h = kept_tree m n (tree_of t) sorted (kept_request_nodes m n (tree_of t) sorted refl (record {

@@ -17,13 +17,6 @@ use Rattle.offset_table.proofs.Sharing.{queue_keeps_tree, tree_keeps_queue, link
 pub equally_many : (m : Words) (t : Table) (order : List ℕ) → (h : IsTable m t order) → length h.sorted ≡ length order
 equally_many m t order h = same_length h.sorted order h.tree.holds.distinct.1 h.queue.holds.distinct.1 h.back h.there
 
--- `init`
-pub made_context : (m : Words) (t : Table) → IsTableContext m t → IsContext m (tree_of t)
-made_context m t h = record { room = omega (arith, h.room); above = h.above; below = h.below }
-
-pub made_head : (m n : Words) (t : Table) → IsTableContext m t → MakesEmpty m n t.context.at → IsHead n (queue_of t)
-made_head m n t h e = record { room = omega (arith, h.room, e.lengths t.context.at); above = h.above; below = omega (arith, h.below, e.lengths t.context.at) }
-
 pub made_table : (n l : Words) (t : Table) → IsTree n (tree_of t) [] → IsQueue l (queue_of t) 5 [] → ChangesLinks n l (queue_of t) 5 [] → IsTable l t []
 made_table n l t tree queue c = record { sorted = []; queue = queue; tree = queue_keeps_tree n l t [] [] c tree; there = λ x i. i; back = λ x i. i }
 

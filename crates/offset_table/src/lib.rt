@@ -4,5 +4,4 @@
 mod calls;
 mod table;
 
-pub use calls::{add, find, init, oldest, remove, touch};
 pub use table::Table;

@@ -8,10 +8,8 @@ use crate::grid::{laid_out, place, put_in, toggle};
 use crate::keys::{Keys, colliding, counted, multiple};
 use crate::line::{Change, Spot, apply, begin, drain, fill};
 use crate::walk::{Part, peek, walk};
-use offset_queue::queue::Queue;
-use offset_tree::find::find;
-use offset_tree::init::init;
-use offset_tree::tree::{Form, Tree};
+use offset_queue::Queue;
+use offset_tree::{Form, Tree};
 use std::alloc::Global;
 use std::marker::Brand;
 use std::process::Abort;
@@ -19,10 +17,7 @@ use std::sync::ledger::{Blank, Ledger};
 use std::test::Fail;
 use zone_key::{Key, crc32};
 use zone_outside::NoMemory;
-use zone_region::blocks::{Block, Blocks};
-use zone_region::counted::CountedBlocks;
-use zone_region::memory::MemBlocks;
-use zone_region::steps::Steps;
+use zone_region::{Block, Blocks, CountedBlocks, MemBlocks, Steps};
 
 /// A tree of request nodes.
 fn request_tree() -> Tree
@@ -67,7 +62,7 @@ fn seek<L: Ledger, R: Abort>(
     steps: &mut Steps<L>,
 )
     requires form { IsForm t.now.form }
-    requires there { HasTree (words_in blocks.now.blocks.entries.items) t.now keys.now }
+    requires there { HasTree (words_in blocks.now.blocks.entries) t.now keys.now }
     requires range { k < length keys.now.numbers.items }
     requires few { length keys.now.numbers.items ≤ 65536 }
     requires short { keys.now.len ≤ 8 }
@@ -76,7 +71,7 @@ fn seek<L: Ledger, R: Abort>(
     ensures cost { steps.new ≤ steps.old + most }
 {
     let before = blocks.reads();
-    let found = find(blocks, t, crc32(key.bytes()), key, steps);
+    let found = t.find(blocks, crc32(key.bytes()), key, steps);
     let reads = blocks.reads().wrapping_sub(before);
     let want = if inside { Some(place(k)) } else { None };
     assert_eq!(rt; found, want, "at {k}");
@@ -95,13 +90,13 @@ fn add<L: Ledger, R: Abort>(
     steps: &mut Steps<L>,
 )
     requires form { IsForm t.now.form }
-    requires there { HasTree (words_in blocks.old.blocks.entries.items) t.now keys.now }
+    requires there { HasTree (words_in blocks.old.blocks.entries) t.now keys.now }
     requires range { k < length keys.now.numbers.items }
     requires short { keys.now.len ≤ 8 }
     requires key { key.now ≡ key_at keys.now k }
-    ensures { HasTree (words_in blocks.new.blocks.entries.items) t.now keys.now }
+    ensures { HasTree (words_in blocks.new.blocks.entries) t.now keys.now }
 {
-    match find(blocks, t, crc32(key.bytes()), key, steps) {
+    match t.find(blocks, crc32(key.bytes()), key, steps) {
         Some(_) => panic!(rt; "{k} is there"),
         None => {
             let before = blocks.reads();
@@ -418,7 +413,7 @@ fn empty_tree(rt: HostRuntime) -> Result<(), Fail> {
     for i in 0..16u64 {
         blocks.set(t.context, i, 7);
     }
-    init(&mut blocks, &t);
+    t.init(&mut blocks);
     compare_words(&rt, &blocks, &EMPTY);
     Ok(())
 }

@@ -8,11 +8,11 @@ use Rattle.zone_region.proofs.HoldingLemmas.{holds_some, holds_kept, holds_one}
 use Rattle.offset_tree.specs.Keys.{Rank, IsOrdered}
 use Rattle.offset_tree.specs.Layout.{LaysPart, empty, red, black, LaysTree, IsContext, HasNodes, IsTree, CanInsert}
 use Rattle.offset_tree.specs.Changes.{MakesEmpty}
-use Rattle.offset_tree.specs.Shape.{Shape, leaf, node, blocks_of, hits}
-use Rattle.offset_tree.specs.Links.{Lies}
-use Rattle.offset_tree.specs.Balance.{red_of, IsBalanced, Settled}
-use Rattle.offset_tree.specs.Trees.{IsDrawn}
-use Rattle.offset_tree.specs.Inserting.{IsInsertable}
+use Rattle.offset_tree.specs.Inside.Shape.{Shape, leaf, node, blocks_of, hits}
+use Rattle.offset_tree.specs.Inside.Links.{Lies}
+use Rattle.offset_tree.specs.Inside.Balance.{red_of, IsBalanced, Settled}
+use Rattle.offset_tree.specs.Inside.Trees.{IsDrawn}
+use Rattle.offset_tree.specs.Inside.Inserting.{IsInsertable}
 use Rattle.offset_tree.proofs.Frames.{hits_in}
 use Rattle.offset_tree.proofs.TimesLemmas.{times, times-distinct, hits-times}
 
