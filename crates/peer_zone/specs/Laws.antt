@@ -1,0 +1,50 @@
+-- What holds of every choice and of every opening.
+use Rattle.std.specs.Prelude.{◌≡◌, ◌↔◌, ℕ, zero, suc, ◌<◌, true, false, ◌≤ℤ◌, ◌<ℤ◌, List, [], ◌∷◌, Option, Some, None}
+use Rattle.peer_zone.specs.declared.calls.Method.TheVariants.{Round}
+use Rattle.peer_zone.specs.declared.calls.PeerSpec.{PeerSpec}
+use Rattle.peer_zone.specs.declared.calls.PeerCall.TheVariants.{Choose}
+use Rattle.peer_zone.specs.declared.calls.PeerReply.TheVariants.{Peer, NoPeer}
+use Rattle.peer_zone.specs.declared.state.PeerRecord.{PeerRecord}
+use Rattle.peer_zone.specs.declared.state.PeerState.{PeerState}
+use Rattle.peer_zone.specs.Choice.{raised}
+use Rattle.peer_zone.specs.Object.{is_single, list_of, available, answer_of, zone_after}
+use Rattle.peer_zone.specs.Opening.{IsSpec, IsOpened, grants_of, opened_zone, spec_of}
+
+-- the record of this index
+abbrev pub peer_at : List PeerRecord → ℕ → Option PeerRecord
+peer_at [] index = None
+peer_at (p ∷ ps) zero = Some p
+peer_at (p ∷ ps) (suc index) = peer_at ps index
+
+-- the list has a server of this index with this record, and it is available
+pub record IsAvailable (s : PeerState) (list tried now index : ℕ) (p : PeerRecord) : Type 0 where
+  pub there : peer_at (list_of s list) index ≡ Some p
+  pub passes : available s tried now index p ≡ true
+
+-- no server is chosen exactly where none of the list is available
+abbrev pub NoPeerLaw : Type 0
+NoPeerLaw = (s : PeerState) (list tried now : ℕ) → (answer_of s (Choose list tried now) ≡ NoPeer) ↔ ((index : ℕ) (p : PeerRecord) → IsAvailable s list tried now index p → ⊥)
+
+-- and then nothing changes
+abbrev pub NoChangeLaw : Type 0
+NoChangeLaw = (s : PeerState) (list tried now : ℕ) → answer_of s (Choose list tried now) ≡ NoPeer → zone_after s (Choose list tried now) ≡ s
+
+-- a server that is chosen is available
+abbrev pub ChosenLaw : Type 0
+ChosenLaw = (s : PeerState) (list tried now index : ℕ) → answer_of s (Choose list tried now) ≡ Peer index → (p : PeerRecord) × IsAvailable s list tried now index p
+
+-- once all are raised, no record is nearer to its turn than the one that a round chooses, and no earlier one is as near
+pub record IsNearest (index : ℕ) (p : PeerRecord) (other : ℕ) (q : PeerRecord) : Type 0 where
+  pub greatest : (raised q).current ≤ℤ (raised p).current
+  pub first : other < index → (raised q).current <ℤ (raised p).current
+
+abbrev pub NearestLaw : Type 0
+NearestLaw = (s : PeerState) (list tried now index : ℕ) (p : PeerRecord) → is_single s ≡ false → s.method ≡ Round → answer_of s (Choose list tried now) ≡ Peer index → peer_at (list_of s list) index ≡ Some p → (other : ℕ) (q : PeerRecord) → IsAvailable s list tried now other q → IsNearest index p other q
+
+-- a zone that is opened with these was opened with these, and is where a history may begin
+abbrev pub OpenedLaw : Type 0
+OpenedLaw = (spec : PeerSpec) → IsSpec spec → (grants_of spec).refused ≡ None → (spec_of (opened_zone spec) ≡ spec) × IsOpened (opened_zone spec)
+
+-- what a zone was opened with decides where its history begins
+abbrev pub StartLaw : Type 0
+StartLaw = (s t : PeerState) → IsOpened s → IsOpened t → spec_of s ≡ spec_of t → s ≡ t

@@ -1,0 +1,9 @@
+pub use Rattle.zone_object.specs.History
+pub use Rattle.slab_model.specs.Geometry
+pub mod Records
+pub mod Choice
+pub mod Object
+pub mod Opening
+pub mod Holding
+pub mod Laws
+pub mod Rows
