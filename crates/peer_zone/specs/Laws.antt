@@ -1,20 +1,15 @@
 -- What holds of every choice and of every opening.
-use Rattle.std.specs.Prelude.{◌≡◌, ◌↔◌, ℕ, zero, suc, ◌<◌, true, false, ◌≤ℤ◌, ◌<ℤ◌, List, [], ◌∷◌, Option, Some, None}
+use Rattle.std.specs.Prelude.{◌≡◌, ◌↔◌, ℕ, ◌<◌, true, false, ◌≤ℤ◌, ◌<ℤ◌, Some, None}
 use Rattle.peer_zone.specs.declared.calls.Method.TheVariants.{Round}
 use Rattle.peer_zone.specs.declared.calls.PeerSpec.{PeerSpec}
 use Rattle.peer_zone.specs.declared.calls.PeerCall.TheVariants.{Choose}
 use Rattle.peer_zone.specs.declared.calls.PeerReply.TheVariants.{Peer, NoPeer}
 use Rattle.peer_zone.specs.declared.state.PeerRecord.{PeerRecord}
 use Rattle.peer_zone.specs.declared.state.PeerState.{PeerState}
+use Rattle.peer_zone.specs.Records.{peer_at}
 use Rattle.peer_zone.specs.Choice.{raised}
 use Rattle.peer_zone.specs.Object.{is_single, list_of, available, answer_of, zone_after}
 use Rattle.peer_zone.specs.Opening.{IsSpec, IsOpened, grants_of, opened_zone, spec_of}
-
--- the record of this index
-abbrev pub peer_at : List PeerRecord → ℕ → Option PeerRecord
-peer_at [] index = None
-peer_at (p ∷ ps) zero = Some p
-peer_at (p ∷ ps) (suc index) = peer_at ps index
 
 -- the list has a server of this index with this record, and it is available
 pub record IsAvailable (s : PeerState) (list tried now index : ℕ) (p : PeerRecord) : Type 0 where

@@ -7,3 +7,5 @@ pub mod Opening
 pub mod Holding
 pub mod Laws
 pub mod Rows
+pub mod Proving
+pub mod ZoneLaws

@@ -1,7 +1,13 @@
 -- The record of a server: how it begins, and whether it can take a request.
-use Rattle.std.specs.Prelude.{ℕ, ◌-◌, ◌/◌, ◌%◌, ◌^◌, ◌<◌, ◌≤◌, Bool, not, ◌&&◌, ◌||◌, nat_eq, nat_lt, nat_le, pos, List, map, length}
+use Rattle.std.specs.Prelude.{ℕ, zero, suc, ◌-◌, ◌/◌, ◌%◌, ◌^◌, Bool, not, ◌&&◌, ◌||◌, nat_eq, nat_lt, nat_le, pos, List, [], ◌∷◌, map, Option, Some, None}
 use Rattle.peer_zone.specs.declared.calls.Server.{Server}
 use Rattle.peer_zone.specs.declared.state.PeerRecord.{PeerRecord}
+
+-- the record of this index, where there is one
+abbrev pub peer_at : List PeerRecord → ℕ → Option PeerRecord
+peer_at [] index = None
+peer_at (p ∷ ps) zero = Some p
+peer_at (p ∷ ps) (suc index) = peer_at ps index
 
 -- ---- how it begins
 
