@@ -1,2 +1,3 @@
 mod ChoiceLaws
 mod OpeningLaws
+mod SumLaws

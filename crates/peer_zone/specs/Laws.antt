@@ -1,14 +1,15 @@
 -- What holds of every choice and of every opening.
-use Rattle.std.specs.Prelude.{◌≡◌, ◌↔◌, ℕ, ◌<◌, true, false, ◌≤ℤ◌, ◌<ℤ◌, Some, None}
+use Rattle.std.specs.Prelude.{◌≡◌, ◌↔◌, ℕ, ◌<◌, true, false, ℤ, pos, ◌+ℤ◌, ◌≤ℤ◌, ◌<ℤ◌, List, [], ◌∷◌, Some, None}
 use Rattle.peer_zone.specs.declared.calls.Method.TheVariants.{Round}
 use Rattle.peer_zone.specs.declared.calls.PeerSpec.{PeerSpec}
+use Rattle.peer_zone.specs.declared.calls.PeerCall.{PeerCall}
 use Rattle.peer_zone.specs.declared.calls.PeerCall.TheVariants.{Choose}
 use Rattle.peer_zone.specs.declared.calls.PeerReply.TheVariants.{Peer, NoPeer}
 use Rattle.peer_zone.specs.declared.state.PeerRecord.{PeerRecord}
 use Rattle.peer_zone.specs.declared.state.PeerState.{PeerState}
 use Rattle.peer_zone.specs.Records.{peer_at}
 use Rattle.peer_zone.specs.Choice.{raised}
-use Rattle.peer_zone.specs.Object.{is_single, list_of, available, answer_of, zone_after}
+use Rattle.peer_zone.specs.Object.{is_single, list_of, list_asked, available, answer_of, zone_after, Ready, CanAnswer}
 use Rattle.peer_zone.specs.Opening.{IsSpec, IsOpened, grants_of, opened_zone, spec_of}
 
 -- the list has a server of this index with this record, and it is available
@@ -36,9 +37,22 @@ pub record IsNearest (index : ℕ) (p : PeerRecord) (other : ℕ) (q : PeerRecor
 abbrev pub NearestLaw : Type 0
 NearestLaw = (s : PeerState) (list tried now index : ℕ) (p : PeerRecord) → is_single s ≡ false → s.method ≡ Round → answer_of s (Choose list tried now) ≡ Peer index → peer_at (list_of s list) index ≡ Some p → (other : ℕ) (q : PeerRecord) → IsAvailable s list tried now other q → IsNearest index p other q
 
+-- the sum of the currents
+abbrev pub current_sum : List PeerRecord → ℤ
+current_sum [] = pos 0
+current_sum (p ∷ ps) = p.current +ℤ current_sum ps
+
+-- what a round gives to all it takes from the one that it chooses: no call changes the sum of a list's currents
+abbrev pub SumLaw : Type 0
+SumLaw = (s : PeerState) (call : PeerCall) (list : ℕ) → list < 2 → list_asked call < 2 → current_sum (list_of (zone_after s call) list) ≡ current_sum (list_of s list)
+
 -- a zone that is opened with these was opened with these, and is where a history may begin
 abbrev pub OpenedLaw : Type 0
 OpenedLaw = (spec : PeerSpec) → IsSpec spec → (grants_of spec).refused ≡ None → (spec_of (opened_zone spec) ≡ spec) × IsOpened (opened_zone spec)
+
+-- what a ready call is answered is a reply that it can be given
+abbrev pub AnswerLaw : Type 0
+AnswerLaw = (s : PeerState) (call : PeerCall) → Ready s call → CanAnswer s call (answer_of s call)
 
 -- what a zone was opened with decides where its history begins
 abbrev pub StartLaw : Type 0

@@ -8,4 +8,4 @@ pub mod Holding
 pub mod Laws
 pub mod Rows
 pub mod Proving
-pub mod ZoneLaws
+pub mod ObjectLaws

@@ -1,4 +1,10 @@
-ghost use Rattle.peer_zone.specs.Laws.{NoPeerLaw, NoChangeLaw, ChosenLaw, NearestLaw, OpenedLaw, StartLaw};
+ghost use Rattle.std.specs.Prelude.{List};
+ghost use Rattle.zone_object.specs.History.{IsHistory, IsReady, run};
+ghost use Rattle.peer_zone.specs.declared.state.PeerState.{PeerState};
+ghost use Rattle.peer_zone.specs.Object.{Made, answer_of, zone_after, Permits, Ready};
+ghost use Rattle.peer_zone.specs.Opening.{IsOpened};
+ghost use Rattle.peer_zone.specs.Holding.{Holds};
+ghost use Rattle.peer_zone.specs.Laws.{NoPeerLaw, NoChangeLaw, ChosenLaw, NearestLaw, SumLaw, OpenedLaw, AnswerLaw, StartLaw};
 ghost use Rattle.peer_zone.specs.Rows.{CycleRow, BackupRow, SingleRow, LeastRow, SmallRow};
 
 /// What holds of every choice and of every opening, as theorems over the definitions. Nothing runs.
@@ -7,8 +13,18 @@ pub fn laws()
     ensures no_change { NoChangeLaw }
     ensures chosen { ChosenLaw }
     ensures nearest { NearestLaw }
+    ensures sum { SumLaw }
     ensures opened { OpenedLaw }
+    ensures answers { AnswerLaw }
     ensures start { StartLaw }
+{}
+
+/// What holds of every history of an upstream's zone, for any type of its object: each call is ready at its place, and
+/// afterwards the zone is what it was opened as but for its servers' numbers, with the requests that each server was
+/// given and that have not freed it. Nothing runs.
+pub fn histories<X>()
+    ensures ready { (start : PeerState) (log : List (Made X)) → IsHistory IsOpened answer_of zone_after Permits start log → IsReady zone_after Ready start log }
+    ensures holds { (start : PeerState) (log : List (Made X)) → IsHistory IsOpened answer_of zone_after Permits start log → Holds start log (run zone_after start log) }
 {}
 
 /// Worked rows, which the definitions compute. Nothing runs.

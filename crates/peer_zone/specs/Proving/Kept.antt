@@ -84,7 +84,7 @@ conns-raised part from (p ∷ ps) zero = go (part from p) where
 conns-raised part from (p ∷ ps) (suc index) = conns-raised part (from + 1) ps index
 
 -- a record that is there still is
-there-raised : (part : Part) (from : ℕ) (ps : List PeerRecord) (at : ℕ) (p : PeerRecord) → peer_at ps at ≡ Some p → (q : PeerRecord) × (peer_at (raised_in part from ps) at ≡ Some q)
+pub there-raised : (part : Part) (from : ℕ) (ps : List PeerRecord) (at : ℕ) (p : PeerRecord) → peer_at ps at ≡ Some p → (q : PeerRecord) × (peer_at (raised_in part from ps) at ≡ Some q)
 there-raised part from [] at p there = absurd (cc)
 there-raised part from (p ∷ ps) zero q there = (cond (part from p) (raised p) p, refl)
 there-raised part from (p ∷ ps) (suc at) q there = there-raised part (from + 1) ps at q there
@@ -205,7 +205,7 @@ pub record IsChoice (n : ℕ) (ps : List PeerRecord) (c : Choice) : Type 0 where
   pub servers : servers_of c.peers ≡ servers_of ps
   pub conns : (index : ℕ) → conns_at c.peers index ≡ conns_at ps index + chosen_at c.chosen index
 
-found_there : (part : Part) (ps : List PeerRecord) (f : Found) → IsFound part 0 ps f → (p : PeerRecord) × (peer_at ps f.index ≡ Some p)
+pub found_there : (part : Part) (ps : List PeerRecord) (f : Found) → IsFound part 0 ps f → (p : PeerRecord) × (peer_at ps f.index ≡ Some p)
 found_there part ps f h = (f.peer, let e : h.place ≡ f.index = let i = h.index in omega (arith, i) in subst (λ n. peer_at ps n ≡ Some f.peer) e h.there)
 
 few-total : (n : ℕ) (part : Part) (ps : List PeerRecord) → length ps ≤ 64 → All (IsWithin n) ps → total_in part 0 ps ≤ greatest_move

@@ -1,5 +1,6 @@
-use Rattle.peer_zone.specs.ZoneLaws.{start-law}
+use Rattle.peer_zone.specs.ObjectLaws.{answer-law, start-law}
 use Rattle.peer_zone.proofs.ChoiceLaws.{no_peer-law, no_change-law, chosen-law, nearest-law}
+use Rattle.peer_zone.proofs.SumLaws.{sum-law}
 use Rattle.peer_zone.proofs.OpeningLaws.{opened-law}
 use Rattle.peer_zone.proofs.theorems.laws.Goals as goal
 
@@ -9,6 +10,8 @@ returns c = record {
   no_change = no_change-law;
   chosen = chosen-law;
   nearest = nearest-law;
+  sum = sum-law;
   opened = opened-law;
+  answers = answer-law;
   start = start-law;
 }
