@@ -1,10 +1,36 @@
 -- What calls of an upstream's zone carry along a history.
-use Rattle.std.specs.Prelude.{◌≡◌, ℕ, ◌+◌, ◌*◌, ◌^◌, ◌<◌, ◌≤◌, pos, neg_ℤ, ◌≤ℤ◌, List, length, sum_by}
-use Rattle.std.specs.List.{All}
+use Rattle.std.specs.Prelude.{◌≡◌, ℕ, ◌+◌, ◌*◌, ◌^◌, ◌<◌, ◌≤◌, pos, neg_ℤ, ◌≤ℤ◌, nat_eq, nat_lt, List, length, sum_by, if◌then◌else◌}
+use Rattle.std.specs.List.{All, AllZip}
+use Rattle.slab_model.specs.State.{Slab}
+use Rattle.slab_model.specs.Blocks.{live_bytes}
+use Rattle.slab_model.specs.Grant.{block_bytes}
+use Rattle.slab_model.specs.Soundness.{IsSound}
 use Rattle.peer_zone.specs.declared.state.PeerRecord.{PeerRecord}
 use Rattle.peer_zone.specs.declared.state.PeerState.{PeerState}
 use Rattle.peer_zone.specs.Object.{Made, given, back, conns_at, list_of, IsServer, IsMoment}
-use Rattle.peer_zone.specs.Opening.{IsSpec, spec_of}
+use Rattle.peer_zone.specs.Opening.{Request, IsSpec, requests_of, spec_of}
+
+-- how often `at` is one of these blocks
+abbrev pub named_at : List ℕ → ℕ → ℕ
+named_at blocks at = sum_by (λ block. if nat_eq block at then 1 else 0) blocks
+
+-- once if a live block begins at `at`
+abbrev pub live_at : Slab → ℕ → ℕ
+live_at slab at = if nat_lt 0 (live_bytes slab at) then 1 else 0
+
+-- the block was granted for the request
+abbrev pub IsGranted : Slab → Request → ℕ → Type 0
+IsGranted slab request at = live_bytes slab at ≡ block_bytes slab request.size
+
+-- the blocks are the live blocks of a sound slab, each named once and granted for its request
+pub record AreWhole (slab : Slab) (requests : List Request) (blocks : List ℕ) : Type 0 where
+  pub sound : IsSound slab
+  pub named : (at : ℕ) → named_at blocks at ≡ live_at slab at
+  pub granted : AllZip (IsGranted slab) requests blocks
+
+-- the zone's blocks are those of its context, its name, its lists and its records
+abbrev pub IsWhole : PeerState → Type 0
+IsWhole s = AreWhole s.slab (requests_of (spec_of s)) s.blocks
 
 -- by how much a call moves a current at most: 64 servers of weight 65,535 weigh less
 abbrev pub greatest_move : ℕ
@@ -21,12 +47,13 @@ pub record IsWithin (calls : ℕ) (p : PeerRecord) : Type 0 where
   pub checked : IsMoment p.checked
   pub accessed : IsMoment p.accessed
 
--- what the zone was opened with and its blocks stay; a server's connections are the requests that it was given to and that have not freed it
+-- what the zone was opened with and its blocks stay, and it is whole; a server's connections are the requests that it was given to and that have not freed it
 pub record Holds {X : Type 0} (start : PeerState) (log : List (Made X)) (s : PeerState) : Type 0 where
   pub spec : IsSpec (spec_of s)
   pub same : spec_of s ≡ spec_of start
   pub slab : s.slab ≡ start.slab
   pub blocks : s.blocks ≡ start.blocks
+  pub whole : IsWhole s
   pub primary : All (IsWithin (length log)) s.primary
   pub backup : All (IsWithin (length log)) s.backup
   pub held : (list index : ℕ) → list < 2 → conns_at (list_of s list) index + sum_by (back list index) log ≡ sum_by (given list index) log

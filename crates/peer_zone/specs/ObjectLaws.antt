@@ -24,7 +24,8 @@ use Rattle.peer_zone.specs.Object.{Made, is_single, list_of, with_list, availabl
 use Rattle.peer_zone.specs.Opening.{IsSpec, IsOpened, spec_of, opened_zone, grants_of}
 use Rattle.peer_zone.specs.Holding.{IsWithin, Holds, greatest_move}
 use Rattle.peer_zone.specs.Proving.Kept.{IsChoice, choose-is, conns-less, conns-freed, servers-freed, All-freed, All-still}
-use Rattle.peer_zone.specs.Proving.Lists.{All-fresh, conns-fresh, HasRoom-within, primary_few, backup_few, spec-with, slab-with, blocks-with, Both, both-with, choose-moves, free-moves, few_of, within_of}
+use Rattle.peer_zone.specs.Proving.Blocks.{opened-whole}
+use Rattle.peer_zone.specs.Proving.Lists.{whole-with, All-fresh, conns-fresh, HasRoom-within, primary_few, backup_few, spec-with, slab-with, blocks-with, Both, both-with, choose-moves, free-moves, few_of, within_of}
 use Rattle.peer_zone.specs.Proving.Chosen.{TakesPart, chosen-takes}
 
 module _ {X : Type 0} where
@@ -55,6 +56,7 @@ module _ {X : Type 0} where
     same = refl;
     slab = refl;
     blocks = refl;
+    whole = opened-whole s o;
     primary = subst (λ (ps : List PeerRecord). All (IsWithin 0) ps) (sym primary_is) (All-fresh (servers_of s.primary) o.spec.primary);
     backup = subst (λ (ps : List PeerRecord). All (IsWithin 0) ps) (sym backup_is) (All-fresh (servers_of s.backup) o.spec.backup);
     held = λ list index _. let none = go (nat_eq list 0) index in omega (arith, none);
@@ -102,6 +104,7 @@ module _ {X : Type 0} where
     same = spec-with s list peers same ∙ h.same;
     slab = slab-with s list peers ∙ h.slab;
     blocks = blocks-with s list peers ∙ h.blocks;
+    whole = whole-with s list peers same h.whole;
     primary = subst (λ n. All (IsWithin n) (with_list s list peers).primary) (sym longer) both.primary;
     backup = subst (λ n. All (IsWithin n) (with_list s list peers).backup) (sym longer) both.backup;
     held = λ l index l_is. let step = moves l index l_is in let held = h.held l index l_is in omega (arith, sum-snoc (back l index) log e, sum-snoc (given l index) log e, step, held);

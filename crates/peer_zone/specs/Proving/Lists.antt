@@ -5,14 +5,16 @@ use Rattle.std.specs.List.{All}
 use Rattle.std.proofs.lemmas.Int.{ints}
 use Rattle.std.proofs.lemmas.List.{length-map}
 use Rattle.std.proofs.lemmas.List.Elements.{All-cons, All-head, All-tail, All-nil}
+use Rattle.slab_model.specs.State.{Slab}
 use Rattle.peer_zone.specs.declared.calls.Server.{Server}
+use Rattle.peer_zone.specs.declared.calls.PeerSpec.{PeerSpec}
 use Rattle.peer_zone.specs.declared.calls.PeerCall.TheVariants.{Choose, Free}
 use Rattle.peer_zone.specs.declared.state.PeerRecord.{PeerRecord}
 use Rattle.peer_zone.specs.declared.state.PeerState.{PeerState}
 use Rattle.peer_zone.specs.Records.{fresh_record, servers_of}
 use Rattle.peer_zone.specs.Object.{list_of, with_list, reply_for, given_by, back_by, conns_at, IsServer, HasRoom}
-use Rattle.peer_zone.specs.Opening.{IsSpec, spec_of}
-use Rattle.peer_zone.specs.Holding.{IsWithin, greatest_move}
+use Rattle.peer_zone.specs.Opening.{IsSpec, requests_of, spec_of}
+use Rattle.peer_zone.specs.Holding.{AreWhole, IsWhole, IsWithin, greatest_move}
 use Rattle.peer_zone.specs.Proving.Kept.{chosen_at, once, plus_none}
 
 -- ---- a fresh list
@@ -66,6 +68,12 @@ blocks-with s list peers = go (nat_eq list 0) where
   go : (b : Bool) → (cond b (record s { primary = peers }) (record s { backup = peers })).blocks ≡ s.blocks
   go true = refl
   go false = refl
+
+pub whole-with : (s : PeerState) (list : ℕ) (peers : List PeerRecord) → servers_of peers ≡ servers_of (list_of s list) → IsWhole s → IsWhole (with_list s list peers)
+whole-with s list peers same h =
+    subst (λ (slab : Slab). AreWhole slab (requests_of (spec_of (with_list s list peers))) (with_list s list peers).blocks) (sym (slab-with s list peers))
+    (subst (λ (blocks : List ℕ). AreWhole s.slab (requests_of (spec_of (with_list s list peers))) blocks) (sym (blocks-with s list peers))
+    (subst (λ (spec : PeerSpec). AreWhole s.slab (requests_of spec) s.blocks) (sym (spec-with s list peers same)) h))
 
 -- both lists once one of them is another
 pub record Both (n : ℕ) (s : PeerState) : Type 0 where
