@@ -1,3 +1,4 @@
 mod ChoiceLaws
 mod OpeningLaws
 mod SumLaws
+mod RefusedLaws

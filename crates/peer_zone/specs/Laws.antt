@@ -10,7 +10,7 @@ use Rattle.peer_zone.specs.declared.state.PeerState.{PeerState}
 use Rattle.peer_zone.specs.Records.{peer_at}
 use Rattle.peer_zone.specs.Choice.{raised}
 use Rattle.peer_zone.specs.Object.{is_single, list_of, list_asked, available, answer_of, zone_after, Ready, CanAnswer}
-use Rattle.peer_zone.specs.Opening.{IsSpec, IsOpened, grants_of, opened_zone, spec_of}
+use Rattle.peer_zone.specs.Opening.{IsSpec, IsOpened, refused_server, grants_of, opened_zone, spec_of}
 
 -- the list has a server of this index with this record, and it is available
 pub record IsAvailable (s : PeerState) (list tried now index : ℕ) (p : PeerRecord) : Type 0 where
@@ -45,6 +45,10 @@ current_sum (p ∷ ps) = p.current +ℤ current_sum ps
 -- what a round gives to all it takes from the one that it chooses: no call changes the sum of a list's currents
 abbrev pub SumLaw : Type 0
 SumLaw = (s : PeerState) (call : PeerCall) (list : ℕ) → list < 2 → list_asked call < 2 → current_sum (list_of (zone_after s call) list) ≡ current_sum (list_of s list)
+
+-- where no server's record is refused, no block is: there is always room for the context, the name and the lists
+abbrev pub RefusedLaw : Type 0
+RefusedLaw = (spec : PeerSpec) → IsSpec spec → refused_server spec ≡ None → (grants_of spec).refused ≡ None
 
 -- a zone that is opened with these was opened with these, and is where a history may begin
 abbrev pub OpenedLaw : Type 0

@@ -1,6 +1,7 @@
 use Rattle.peer_zone.specs.ObjectLaws.{answer-law, start-law}
 use Rattle.peer_zone.proofs.ChoiceLaws.{no_peer-law, no_change-law, chosen-law, nearest-law}
 use Rattle.peer_zone.proofs.SumLaws.{sum-law}
+use Rattle.peer_zone.proofs.RefusedLaws.{refused-law}
 use Rattle.peer_zone.proofs.OpeningLaws.{opened-law}
 use Rattle.peer_zone.proofs.theorems.laws.Goals as goal
 
@@ -11,6 +12,7 @@ returns c = record {
   chosen = chosen-law;
   nearest = nearest-law;
   sum = sum-law;
+  refused = refused-law;
   opened = opened-law;
   answers = answer-law;
   start = start-law;
