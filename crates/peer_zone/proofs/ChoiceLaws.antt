@@ -21,7 +21,7 @@ reply-none : (chosen : Option ℕ) → reply_for chosen ≡ NoPeer → chosen �
 reply-none None is = refl
 reply-none (Some index) is = absurd (cc)
 
-reply-some : (chosen : Option ℕ) (index : ℕ) → reply_for chosen ≡ Peer index → chosen ≡ Some index
+pub reply-some : (chosen : Option ℕ) (index : ℕ) → reply_for chosen ≡ Peer index → chosen ≡ Some index
 reply-some None index is = absurd (cc)
 reply-some (Some at) index is = ap {A = PeerReply} {B = Option ℕ} (elim [ Peer n ↦ Some n | NoPeer ↦ None | Freed ↦ None ]) is
 

@@ -2,3 +2,4 @@ mod ChoiceLaws
 mod OpeningLaws
 mod SumLaws
 mod RefusedLaws
+mod LeastLaws

@@ -1,6 +1,6 @@
 -- What holds of every choice and of every opening.
 use Rattle.std.specs.Prelude.{◌≡◌, ◌↔◌, ℕ, ◌<◌, true, false, ℤ, pos, ◌+ℤ◌, ◌≤ℤ◌, ◌<ℤ◌, List, [], ◌∷◌, Some, None}
-use Rattle.peer_zone.specs.declared.calls.Method.TheVariants.{Round}
+use Rattle.peer_zone.specs.declared.calls.Method.TheVariants.{Round, Least}
 use Rattle.peer_zone.specs.declared.calls.PeerSpec.{PeerSpec}
 use Rattle.peer_zone.specs.declared.calls.PeerCall.{PeerCall}
 use Rattle.peer_zone.specs.declared.calls.PeerCall.TheVariants.{Choose}
@@ -8,7 +8,7 @@ use Rattle.peer_zone.specs.declared.calls.PeerReply.TheVariants.{Peer, NoPeer}
 use Rattle.peer_zone.specs.declared.state.PeerRecord.{PeerRecord}
 use Rattle.peer_zone.specs.declared.state.PeerState.{PeerState}
 use Rattle.peer_zone.specs.Records.{peer_at}
-use Rattle.peer_zone.specs.Choice.{raised}
+use Rattle.peer_zone.specs.Choice.{raised, is_less_busy}
 use Rattle.peer_zone.specs.Object.{is_single, list_of, list_asked, available, answer_of, zone_after, Ready, CanAnswer}
 use Rattle.peer_zone.specs.Opening.{IsSpec, IsOpened, refused_server, grants_of, opened_zone, spec_of}
 
@@ -36,6 +36,10 @@ pub record IsNearest (index : ℕ) (p : PeerRecord) (other : ℕ) (q : PeerRecor
 
 abbrev pub NearestLaw : Type 0
 NearestLaw = (s : PeerState) (list tried now index : ℕ) (p : PeerRecord) → is_single s ≡ false → s.method ≡ Round → answer_of s (Choose list tried now) ≡ Peer index → peer_at (list_of s list) index ≡ Some p → (other : ℕ) (q : PeerRecord) → IsAvailable s list tried now other q → IsNearest index p other q
+
+-- in a ready zone no available server is less busy for its weight than the one that least connections choose
+abbrev pub LeastLaw : Type 0
+LeastLaw = (s : PeerState) (list tried now index : ℕ) (p : PeerRecord) → Ready s (Choose list tried now) → is_single s ≡ false → s.method ≡ Least → answer_of s (Choose list tried now) ≡ Peer index → peer_at (list_of s list) index ≡ Some p → (other : ℕ) (q : PeerRecord) → IsAvailable s list tried now other q → is_less_busy q p ≡ false
 
 -- the sum of the currents
 abbrev pub current_sum : List PeerRecord → ℤ

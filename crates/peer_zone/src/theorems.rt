@@ -4,7 +4,7 @@ ghost use Rattle.peer_zone.specs.declared.state.PeerState.{PeerState};
 ghost use Rattle.peer_zone.specs.Object.{Made, answer_of, zone_after, Permits, Ready};
 ghost use Rattle.peer_zone.specs.Opening.{IsOpened};
 ghost use Rattle.peer_zone.specs.Holding.{Holds};
-ghost use Rattle.peer_zone.specs.Laws.{NoPeerLaw, NoChangeLaw, ChosenLaw, NearestLaw, SumLaw, RefusedLaw, OpenedLaw, AnswerLaw, StartLaw};
+ghost use Rattle.peer_zone.specs.Laws.{NoPeerLaw, NoChangeLaw, ChosenLaw, NearestLaw, LeastLaw, SumLaw, RefusedLaw, OpenedLaw, AnswerLaw, StartLaw};
 ghost use Rattle.peer_zone.specs.Rows.{CycleRow, BackupRow, SingleRow, LeastRow, SmallRow};
 
 /// What holds of every choice and of every opening, as theorems over the definitions. Nothing runs.
@@ -13,6 +13,7 @@ pub fn laws()
     ensures no_change { NoChangeLaw }
     ensures chosen { ChosenLaw }
     ensures nearest { NearestLaw }
+    ensures least { LeastLaw }
     ensures sum { SumLaw }
     ensures refused { RefusedLaw }
     ensures opened { OpenedLaw }

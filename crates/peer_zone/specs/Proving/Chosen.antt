@@ -27,7 +27,7 @@ settled-chosen total now (Some best) ps index is = (best, refl, some_same best.i
 pub round-chosen : (part : Part) (now : ℕ) (ps : List PeerRecord) (index : ℕ) → (by_round part now ps).chosen ≡ Some index → (f : Found) × (best_in part 0 ps ≡ Some f) × (f.index ≡ index)
 round-chosen part now ps index is = settled-chosen (total_in part 0 ps) now (best_in part 0 ps) (raised_in part 0 ps) index is
 
-round-takes : (part : Part) (now : ℕ) (ps : List PeerRecord) (index : ℕ) → (by_round part now ps).chosen ≡ Some index → TakesPart part ps index
+pub round-takes : (part : Part) (now : ℕ) (ps : List PeerRecord) (index : ℕ) → (by_round part now ps).chosen ≡ Some index → TakesPart part ps index
 round-takes part now ps index is = let f = round-chosen part now ps index is in subst (λ n. TakesPart part ps n) f.2 (found-takes part ps f.0 (best-found part 0 ps f.0 f.1))
 
 -- who is tied with the least busy one takes part

@@ -1,5 +1,6 @@
 use Rattle.peer_zone.specs.ObjectLaws.{answer-law, start-law}
 use Rattle.peer_zone.proofs.ChoiceLaws.{no_peer-law, no_change-law, chosen-law, nearest-law}
+use Rattle.peer_zone.proofs.LeastLaws.{least-law}
 use Rattle.peer_zone.proofs.SumLaws.{sum-law}
 use Rattle.peer_zone.proofs.RefusedLaws.{refused-law}
 use Rattle.peer_zone.proofs.OpeningLaws.{opened-law}
@@ -11,6 +12,7 @@ returns c = record {
   no_change = no_change-law;
   chosen = chosen-law;
   nearest = nearest-law;
+  least = least-law;
   sum = sum-law;
   refused = refused-law;
   opened = opened-law;
