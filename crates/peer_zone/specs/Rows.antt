@@ -1,5 +1,5 @@
 -- Worked rows, which the definitions compute.
-use Rattle.std.specs.Prelude.{◌≡◌, ℕ, Bool, true, false, List, [], ◌∷◌, replicate, map, pos, Option, Some, None, ℤ}
+use Rattle.std.specs.Prelude.{◌≡◌, ℕ, zero, suc, Bool, true, false, List, [], ◌∷◌, ◌++◌, replicate, map, pos, Option, Some, None, ℤ}
 use Rattle.peer_zone.specs.declared.calls.Server.{Server}
 use Rattle.peer_zone.specs.declared.calls.Method.{Method}
 use Rattle.peer_zone.specs.declared.calls.Method.TheVariants.{Round, Least}
@@ -48,6 +48,27 @@ abbrev pub CycleRow : Type 0
 CycleRow = (answers_of weights_5_1_1 (replicate 7 first_try) ≡ Peer 0 ∷ Peer 0 ∷ Peer 1 ∷ Peer 0 ∷ Peer 2 ∷ Peer 0 ∷ Peer 0 ∷ [])
     × (currents_of (after_all weights_5_1_1 (replicate 7 first_try)) ≡ pos 0 ∷ pos 0 ∷ pos 0 ∷ [])
 
+-- so many times the same replies
+abbrev pub repeated : ℕ → List PeerReply → List PeerReply
+repeated zero replies = []
+repeated (suc times) replies = replies ++ repeated times replies
+
+-- ten cycles are alike
+abbrev pub TenCyclesRow : Type 0
+TenCyclesRow = answers_of weights_5_1_1 (replicate 70 first_try) ≡ repeated 10 (Peer 0 ∷ Peer 0 ∷ Peer 1 ∷ Peer 0 ∷ Peer 2 ∷ Peer 0 ∷ Peer 0 ∷ [])
+
+abbrev pub weights_1_2_3 : PeerState
+weights_1_2_3 = opened_zone (in_32_kib Round (of_weight 1 ∷ of_weight 2 ∷ of_weight 3 ∷ []) [])
+
+-- a cycle of all three; then the third server fails, and the others share a cycle of theirs
+abbrev pub one_fails : List PeerCall
+one_fails = replicate 6 first_try ++ Free 0 2 true 0 ∷ replicate 3 first_try
+
+-- at 11 the third server is back, with an effective weight of 0 that grows by 1 a round, and is chosen in the fourth
+abbrev pub ReturnRow : Type 0
+ReturnRow = (answers_of weights_1_2_3 one_fails ≡ Peer 2 ∷ Peer 1 ∷ Peer 0 ∷ Peer 2 ∷ Peer 1 ∷ Peer 2 ∷ Freed ∷ Peer 1 ∷ Peer 0 ∷ Peer 1 ∷ [])
+    × (answers_of (after_all weights_1_2_3 one_fails) (replicate 4 (Choose 0 0 11)) ≡ Peer 1 ∷ Peer 0 ∷ Peer 1 ∷ Peer 2 ∷ [])
+
 -- ---- a failure and a backup
 
 abbrev pub with_backup : PeerState
@@ -80,6 +101,19 @@ SingleRow = answers_of (opened_zone (in_32_kib Round (of_weight 1 ∷ []) [])) (
 -- weights 2 and 1: the first and the fourth choice are ties, which a round decides
 abbrev pub LeastRow : Type 0
 LeastRow = answers_of (opened_zone (in_32_kib Least (of_weight 2 ∷ of_weight 1 ∷ []) [])) (replicate 4 first_try) ≡ Peer 0 ∷ Peer 1 ∷ Peer 0 ∷ Peer 1 ∷ []
+
+-- three of one weight: the first choice has ties of three, the second of two, the third none, and the fourth of three again
+abbrev pub TiesRow : Type 0
+TiesRow = answers_of (opened_zone (in_32_kib Least (of_weight 1 ∷ of_weight 1 ∷ of_weight 1 ∷ []) [])) (replicate 6 first_try) ≡ Peer 0 ∷ Peer 1 ∷ Peer 2 ∷ Peer 2 ∷ Peer 1 ∷ Peer 0 ∷ []
+
+-- ---- at most one connection
+
+abbrev pub one_at_most : Server
+one_at_most = record { address = 97 ∷ []; weight = 1; max_conns = 1; max_fails = 1; fail_timeout = 10; down = false }
+
+-- once both servers are full no server is chosen, until one has a connection less
+abbrev pub FullRow : Type 0
+FullRow = answers_of (opened_zone (in_32_kib Round (one_at_most ∷ one_at_most ∷ []) [])) (first_try ∷ first_try ∷ first_try ∷ Free 0 0 false 0 ∷ first_try ∷ []) ≡ Peer 0 ∷ Peer 1 ∷ NoPeer ∷ Freed ∷ Peer 0 ∷ []
 
 -- ---- the grants at the opening
 

@@ -5,7 +5,7 @@ ghost use Rattle.peer_zone.specs.Object.{Made, answer_of, zone_after, Permits, R
 ghost use Rattle.peer_zone.specs.Opening.{IsOpened};
 ghost use Rattle.peer_zone.specs.Holding.{Holds};
 ghost use Rattle.peer_zone.specs.Laws.{NoPeerLaw, NoChangeLaw, ChosenLaw, NearestLaw, LeastLaw, SumLaw, RefusedLaw, OpenedLaw, AnswerLaw, StartLaw};
-ghost use Rattle.peer_zone.specs.Rows.{CycleRow, BackupRow, SingleRow, LeastRow, SmallRow};
+ghost use Rattle.peer_zone.specs.Rows.{CycleRow, TenCyclesRow, ReturnRow, BackupRow, SingleRow, LeastRow, TiesRow, FullRow, SmallRow};
 
 /// What holds of every choice and of every opening, as theorems over the definitions. Nothing runs.
 pub fn laws()
@@ -32,8 +32,12 @@ pub fn histories<X>()
 /// Worked rows, which the definitions compute. Nothing runs.
 pub fn worked_rows()
     ensures cycle { CycleRow }
+    ensures ten_cycles { TenCyclesRow }
+    ensures comes_back { ReturnRow }
     ensures backup { BackupRow }
     ensures single { SingleRow }
     ensures least { LeastRow }
+    ensures ties { TiesRow }
+    ensures full { FullRow }
     ensures small { SmallRow }
 {}
