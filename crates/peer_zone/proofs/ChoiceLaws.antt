@@ -1,20 +1,19 @@
 -- The laws of a choice.
-use Rattle.std.proofs.Common.{ℕ, ◌≡◌, ◌<◌, ◌≤◌, ◌+◌, Bool, true, false, List, length, Option, Some, None, cond, refl, sym, ap, subst, ◌∙◌, arith}
-use Rattle.std.specs.Prelude.{◌&&◌, nat_eq}
+use Rattle.std.proofs.Common.{ℕ, ◌≡◌, ◌≤◌, ◌+◌, Bool, true, false, List, length, Option, Some, None, cond, refl, sym, ap, subst, ◌∙◌, arith}
+use Rattle.std.specs.Prelude.{nat_eq}
 use Rattle.std.proofs.lemmas.Bool.Decides.{nat_tests}
 use Rattle.peer_zone.specs.declared.calls.Method.{Method}
-use Rattle.peer_zone.specs.declared.calls.Method.TheVariants.{Round}
 use Rattle.peer_zone.specs.declared.calls.PeerCall.TheVariants.{Choose}
 use Rattle.peer_zone.specs.declared.calls.PeerReply.{PeerReply}
 use Rattle.peer_zone.specs.declared.calls.PeerReply.TheVariants.{Peer, NoPeer, Freed}
 use Rattle.peer_zone.specs.declared.state.PeerRecord.{PeerRecord}
 use Rattle.peer_zone.specs.declared.state.PeerState.{PeerState}
 use Rattle.peer_zone.specs.Records.{peer_at}
-use Rattle.peer_zone.specs.Choice.{Part, Choice, Found, best_in, choose, by_round}
-use Rattle.peer_zone.specs.Object.{is_single, list_of, with_list, available, choice_of, reply_for, answer_of, zone_after}
+use Rattle.peer_zone.specs.Choice.{Part, Choice, choose, by_round}
+use Rattle.peer_zone.specs.Object.{is_single, list_of, with_list, available, choice_of, reply_for, answer_of}
 use Rattle.peer_zone.specs.Laws.{IsAvailable, NoPeerLaw, NoChangeLaw, ChosenLaw, NearestLaw, IsNearest}
 use Rattle.peer_zone.specs.Proving.Found.{IsNobody, both-first, both-second, some_same, best-found, best-nearest}
-use Rattle.peer_zone.specs.Proving.Chosen.{chosen-takes, none-nobody, nobody-unchanged, round-chosen, unchanged}
+use Rattle.peer_zone.specs.Proving.Chosen.{chosen-takes, none-nobody, nobody-unchanged, round-chosen}
 
 -- what a reply tells of the choice
 reply-none : (chosen : Option ℕ) → reply_for chosen ≡ NoPeer → chosen ≡ None

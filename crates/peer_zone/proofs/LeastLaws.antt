@@ -6,16 +6,15 @@ use Rattle.std.proofs.Math.Nat.{mul-le-mul_right, le_of_mul-le-mul_right}
 use Rattle.std.proofs.lemmas.Bool.Decides.{nat_tests}
 use Rattle.std.proofs.lemmas.List.Elements.{All-head, All-tail, All-weaker}
 use Rattle.peer_zone.specs.declared.calls.Method.{Method}
-use Rattle.peer_zone.specs.declared.calls.Method.TheVariants.{Round, Least}
 use Rattle.peer_zone.specs.declared.calls.PeerCall.TheVariants.{Choose}
 use Rattle.peer_zone.specs.declared.state.PeerRecord.{PeerRecord}
 use Rattle.peer_zone.specs.declared.state.PeerState.{PeerState}
 use Rattle.peer_zone.specs.Records.{peer_at}
 use Rattle.peer_zone.specs.Choice.{Part, Found, Choice, settled, by_round, is_less_busy, is_as_busy, replaces, least_in, tied, count_in, among_least, by_least, choose}
-use Rattle.peer_zone.specs.Object.{is_single, list_of, available, choice_of, HasRoom, Ready}
+use Rattle.peer_zone.specs.Object.{list_of, available, choice_of, HasRoom, Ready}
 use Rattle.peer_zone.specs.Laws.{LeastLaw}
 use Rattle.peer_zone.specs.Proving.Found.{IsFound, some_same, both-second}
-use Rattle.peer_zone.specs.Proving.Chosen.{TakesPart, round-takes}
+use Rattle.peer_zone.specs.Proving.Chosen.{round-takes}
 use Rattle.peer_zone.specs.Proving.Kept.{least-there}
 use Rattle.peer_zone.proofs.ChoiceLaws.{reply-some}
 
@@ -75,16 +74,21 @@ least-is part from best [] f weighs all is = record { before = λ b was. let sam
 least-is part from best (p ∷ ps) f weighs all is = go (λ (b : Option Found) (w : WeighsSome b). least-is part (from + 1) b ps f w (All-tail HasWeight p ps all)) (part from p) refl best refl (replaces p best) refl is where
   this : Found
   this = record { index = from; peer = p }
+
   weight : HasWeight p
   weight = All-head HasWeight p ps all
+
   here : WeighsSome (Some this)
   here b was = subst (λ (g : Found). HasWeight g.peer) (some_same this b was) weight
+
   -- p is the least busy one so far
   newer : IsLeast part (from + 1) (Some this) ps f → ((b : Found) → best ≡ Some b → AsManyAs b.peer p) → IsLeast part from best (p ∷ ps) f
   newer h less = let mine = h.before this refl in least-more part from best p ps f (λ b was. as_many-through b.peer p f.peer (less b was) mine weight) (λ passes. mine) h.after
+
   -- another one still is
   older : IsLeast part (from + 1) best ps f → (part from p ≡ true → AsManyAs p f.peer) → IsLeast part from best (p ∷ ps) f
   older h mine = least-more part from best p ps f h.before mine h.after
+
   go : ((b : Option Found) → WeighsSome b → least_in part (from + 1) b ps ≡ Some f → IsLeast part (from + 1) b ps f) → (b : Bool) → part from p ≡ b → (was : Option Found) → best ≡ was → (c : Bool) → replaces p was ≡ c → least_in part (from + 1) (cond (b && c) (Some this) best) ps ≡ Some f → IsLeast part from best (p ∷ ps) f
   go rest true passes None none true r h = newer (rest (Some this) here h) (λ b was. absurd (cc))
   go rest true passes (Some b) some true r h = newer (rest (Some this) here h) (λ d was. subst (λ (g : Found). AsManyAs g.peer p) (some_same b d (sym some ∙ was)) (less-as_many p b.peer r))
@@ -125,6 +129,7 @@ weights-of : (s : PeerState) (list tried now : ℕ) → Ready s (Choose list tri
 weights-of s list tried now r = go (nat_eq list 0) where
   weighs : (p : PeerRecord) → HasRoom p → HasWeight p
   weighs p h = h.server.weight.0
+
   go : (b : Bool) → All HasWeight (cond b s.primary s.backup)
   go true = All-weaker HasRoom HasWeight weighs s.primary r.primary
   go false = All-weaker HasRoom HasWeight weighs s.backup r.backup

@@ -1,10 +1,10 @@
 -- The laws of the opening.
-use Rattle.std.proofs.Common.{ℕ, ◌≡◌, List, [], ◌∷◌, map, Option, Some, None, refl, sym, ap, subst, ◌∙◌}
+use Rattle.std.proofs.Common.{◌≡◌, List, [], ◌∷◌, map, refl, sym, ap, subst, ◌∙◌}
 use Rattle.slab_model.specs.declared.shape.Shape.{Shape}
 use Rattle.peer_zone.specs.declared.calls.Server.{Server}
 use Rattle.peer_zone.specs.declared.calls.PeerSpec.{PeerSpec}
 use Rattle.peer_zone.specs.Records.{fresh_record, servers_of}
-use Rattle.peer_zone.specs.Opening.{Request, Granted, first_granted, grant_all, pool_of, requests_of, grants_of, opened_zone, spec_of, IsSpec, IsOpened}
+use Rattle.peer_zone.specs.Opening.{pool_of, requests_of, grants_of, opened_zone, spec_of, IsSpec}
 use Rattle.peer_zone.specs.Laws.{OpenedLaw}
 use Rattle.peer_zone.specs.Proving.Blocks.{shape-all}
 

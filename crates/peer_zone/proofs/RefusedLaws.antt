@@ -1,5 +1,5 @@
 -- Only a server's record can be refused a block.
-use Rattle.std.proofs.Common.{ℕ, zero, suc, ◌≡◌, ◌≢◌, ◌+◌, ◌*◌, ◌<◌, ◌≤◌, Bool, true, false, not, ◌||◌, cond, eqb, List, [], ◌∷◌, ◌++◌, length, Option, Some, None, refl, sym, ap, subst, ◌∙◌, ◌⊎◌, inl, inr, arith}
+use Rattle.std.proofs.Common.{ℕ, suc, ◌≡◌, ◌+◌, ◌<◌, ◌≤◌, Bool, true, false, not, ◌||◌, cond, eqb, List, [], ◌∷◌, ◌++◌, length, Option, Some, None, refl, sym, ap, subst, ◌∙◌, ◌⊎◌, inl, inr, arith}
 use Rattle.std.specs.Prelude.{is_some, sum_by, option_and_then}
 use Rattle.std.specs.List.{All}
 use Rattle.std.proofs.lemmas.Bool.{cases_eq, cases_lt}
@@ -15,8 +15,7 @@ use Rattle.slab_model.specs.declared.page.PageState.TheVariants.{Free, First, La
 use Rattle.slab_model.specs.Geometry.{IsInLimits, class_of, class_size, blocks_in_page, first_index, usable_blocks, most_pages, start_of, pages_of}
 use Rattle.slab_model.specs.Numbers.{is_member}
 use Rattle.slab_model.specs.Runs.{first_fit, page_total}
-use Rattle.slab_model.specs.State.{Slab, page_at, list_of, stat_of, fresh_slab}
-use Rattle.slab_model.specs.Blocks.{is_full}
+use Rattle.slab_model.specs.State.{Slab, page_at, list_of, stat_of}
 use Rattle.slab_model.specs.Counting.{free_pages}
 use Rattle.slab_model.specs.Grant.{grant, fits, fits_as, is_empty}
 use Rattle.slab_model.specs.Laws.{pages_taken_as}
@@ -29,9 +28,8 @@ use Rattle.slab_model.proofs.BlockLaws.{fresh-law}
 use Rattle.slab_model.proofs.CountLaws.{grant_pages-law}
 use Rattle.slab_model.proofs.RequestLaws.{requests-law}
 use Rattle.peer_zone.specs.declared.calls.Server.{Server}
-use Rattle.peer_zone.specs.declared.calls.PeerSpec.{PeerSpec}
 use Rattle.peer_zone.specs.Object.{IsServer}
-use Rattle.peer_zone.specs.Opening.{Request, Granted, besides, context_size, name_size, list_size, record_size, record_requests, backup_requests, first_granted, grant_all, server_of, pool_of, requests_of, grants_of, IsSpec}
+use Rattle.peer_zone.specs.Opening.{Request, Granted, besides, context_size, name_size, list_size, record_size, record_requests, backup_requests, first_granted, grant_all, server_of, pool_of}
 use Rattle.peer_zone.specs.Laws.{RefusedLaw}
 
 -- ---- a request of less than a page in a slab with a free page
@@ -83,14 +81,14 @@ used-after slab size sound small = go (class_of slab.shape size) refl where
   go None is = absurd (let large = class_of-none slab.shape size is in omega (arith, large, small))
   go (Some class) is = elim (cases_eq 3 class) [
     | inl same ↦
-      let counts = requests-law slab size 3 sound (is ∙ ap (λ n. Some n) (sym same)) in
-      let now = counts.used in
-      let between = used_between (used_of slab) (is_some (grant slab size).0) in
-      (omega (arith, now, between.0), omega (arith, now, between.1))
+        let counts = requests-law slab size 3 sound (is ∙ ap (λ n. Some n) (sym same)) in
+        let now = counts.used in
+        let between = used_between (used_of slab) (is_some (grant slab size).0) in
+        (omega (arith, now, between.0), omega (arith, now, between.1))
     | inr other ↦
-      let counts = requests-law slab size class sound is in
-      let now : used_of (grant slab size).1 ≡ used_of slab = ap (λ stat. stat.used) (counts.others 3 other) in
-      (omega (arith, now), omega (arith, now))
+        let counts = requests-law slab size class sound is in
+        let now : used_of (grant slab size).1 ≡ used_of slab = ap (λ stat. stat.used) (counts.others 3 other) in
+        (omega (arith, now), omega (arith, now))
   ]
 
 class_three : class_size 3 ≡ 64
@@ -104,9 +102,9 @@ used-larger slab size sound large small = go (class_of slab.shape size) refl whe
   go None is = absurd (let most = class_of-none slab.shape size is in omega (arith, most, small))
   go (Some class) is = elim (cases_eq 3 class) [
     | inl same ↦
-      let holds = class_of-some slab.shape size class is in
-      let bytes : class_size class ≡ 64 = ap class_size (sym same) ∙ class_three in
-      absurd (omega (arith, holds.1, bytes, large))
+        let holds = class_of-some slab.shape size class is in
+        let bytes : class_size class ≡ 64 = ap class_size (sym same) ∙ class_three in
+        absurd (omega (arith, holds.1, bytes, large))
     | inr other ↦ let counts = requests-law slab size class sound is in ap (λ stat. stat.used) (counts.others 3 other)
   ]
 

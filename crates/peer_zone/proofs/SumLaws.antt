@@ -1,16 +1,15 @@
 -- The sum of a list's currents stays.
-use Rattle.std.proofs.Common.{ℕ, zero, suc, ◌≡◌, ◌+◌, ◌<◌, Bool, true, false, cond, List, [], ◌∷◌, Option, Some, None, refl, sym, ap, subst, ◌∙◌, arith}
-use Rattle.std.specs.Prelude.{ℤ, pos, ◌+ℤ◌, ◌-ℤ◌, nat_lt, nat_eq}
+use Rattle.std.proofs.Common.{ℕ, zero, suc, ◌≡◌, ◌+◌, ◌<◌, Bool, true, false, cond, List, [], ◌∷◌, Option, Some, None, refl, ap, arith}
+use Rattle.std.specs.Prelude.{ℤ, pos, ◌+ℤ◌, ◌-ℤ◌, nat_lt}
 use Rattle.std.proofs.lemmas.Int.{ints}
 use Rattle.peer_zone.specs.declared.calls.Method.{Method}
 use Rattle.peer_zone.specs.declared.calls.Method.TheVariants.{Round, Least}
-use Rattle.peer_zone.specs.declared.calls.PeerCall.{PeerCall}
 use Rattle.peer_zone.specs.declared.calls.PeerCall.TheVariants.{Choose, Free}
 use Rattle.peer_zone.specs.declared.state.PeerRecord.{PeerRecord}
 use Rattle.peer_zone.specs.declared.state.PeerState.{PeerState}
 use Rattle.peer_zone.specs.Records.{peer_at}
 use Rattle.peer_zone.specs.Choice.{Part, Found, Choice, change_at, taken, settled, raised, raised_in, total_in, best_in, by_round, least_in, tied, count_in, among_least, by_least, taken_alone, by_single, choose, freed}
-use Rattle.peer_zone.specs.Object.{is_single, list_of, with_list, available, choice_of, zone_after}
+use Rattle.peer_zone.specs.Object.{is_single, list_of, with_list, available, choice_of}
 use Rattle.peer_zone.specs.Laws.{current_sum, SumLaw}
 use Rattle.peer_zone.specs.Proving.Found.{best-found, best-none, nobody-raised}
 use Rattle.peer_zone.specs.Proving.Kept.{found_there, there-raised, least-there}
@@ -72,6 +71,7 @@ sum-least part now ps = go (least_in part 0 None ps) refl where
   tie : (f : Found) (p : PeerRecord) → peer_at ps f.index ≡ Some p → (b : Bool) → current_sum (cond b (by_round (tied part f) now ps) (settled 0 now (Some f) ps)).peers ≡ current_sum ps
   tie f p there true = sum-round (tied part f) now ps
   tie f p there false = less_none _ _ (sum-taken 0 now f.index ps p there)
+
   go : (least : Option Found) → least_in part 0 None ps ≡ least → current_sum (among_least part now ps least).peers ≡ current_sum ps
   go None none = refl
   go (Some f) some = let at = found_there part ps f (least-there part ps f some) in tie f at.0 at.1 (nat_lt 1 (count_in (tied part f) 0 ps))

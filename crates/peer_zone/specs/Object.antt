@@ -1,5 +1,5 @@
 -- The upstream's zone as an object: what its calls answer and change, what it permits, what a call needs and costs.
-use Rattle.std.specs.Prelude.{◌≡◌, ℕ, zero, suc, ◌+◌, ◌*◌, ◌^◌, ◌<◌, ◌≤◌, Bool, ◌&&◌, nat_eq, pos, neg_ℤ, ◌≤ℤ◌, List, [], ◌∷◌, length, sum_by, Option, Some, None, if◌then◌else◌}
+use Rattle.std.specs.Prelude.{ℕ, zero, suc, ◌+◌, ◌*◌, ◌^◌, ◌<◌, ◌≤◌, Bool, ◌&&◌, nat_eq, pos, neg_ℤ, ◌≤ℤ◌, List, [], ◌∷◌, length, sum_by, Option, Some, None, if◌then◌else◌}
 use Rattle.std.specs.List.{All}
 use Rattle.zone_object.specs.declared.object.Entry.{Entry}
 use Rattle.peer_zone.specs.declared.calls.Server.{Server}

@@ -1,16 +1,11 @@
 -- The laws of an upstream's zone.
-use Rattle.std.proofs.Common.{◌≡◌, ◌≢◌, ℕ, zero, suc, ◌+◌, ◌*◌, ◌-◌, ◌<◌, ◌≤◌, ◌^◌, ◌⊎◌, Bool, true, false, cond, List, [], ◌∷◌, ◌++◌, length, map, Option, Some, None, refl, sym, ap, ◌∙◌, subst, inl, inr, arith, length-append}
-use Rattle.std.specs.Prelude.{◌&&◌, nat_eq, sum_by, pos, neg_ℤ, ◌≤ℤ◌, ℤ}
+use Rattle.std.proofs.Common.{◌≡◌, ℕ, zero, suc, ◌+◌, ◌<◌, ◌≤◌, ◌^◌, ◌⊎◌, Bool, true, false, cond, List, [], ◌∷◌, ◌++◌, length, map, Option, Some, None, refl, sym, ap, ◌∙◌, subst, inl, inr, arith, length-append}
+use Rattle.std.specs.Prelude.{◌&&◌, nat_eq, sum_by}
 use Rattle.std.specs.List.{All}
-use Rattle.std.proofs.lemmas.Int.{ints}
-use Rattle.std.proofs.lemmas.List.{length-map}
-use Rattle.std.proofs.lemmas.List.Elements.{All-cons, All-head, All-tail, All-nil, All-weaker}
-use Rattle.peer_zone.specs.declared.calls.Server.{Server}
-use Rattle.peer_zone.specs.declared.calls.PeerSpec.{PeerSpec}
+use Rattle.std.proofs.lemmas.List.Elements.{All-weaker}
 use Rattle.peer_zone.specs.declared.calls.PeerCall.{PeerCall}
 use Rattle.peer_zone.specs.declared.calls.PeerCall.TheVariants.{Choose, Free}
-use Rattle.peer_zone.specs.declared.calls.PeerReply.{PeerReply}
-use Rattle.peer_zone.specs.declared.calls.PeerReply.TheVariants.{Peer, NoPeer, Freed}
+use Rattle.peer_zone.specs.declared.calls.PeerReply.TheVariants.{Freed}
 use Rattle.peer_zone.specs.declared.state.PeerRecord.{PeerRecord}
 use Rattle.peer_zone.specs.declared.state.PeerState.{PeerState}
 use Rattle.zone_object.specs.History.{entry, run, IsReady, IsHistory}
@@ -19,14 +14,14 @@ use Rattle.zone_object.specs.Carried.{MayFollow, Carries}
 use Rattle.zone_object.proofs.Fair.{sum-snoc, held-law}
 use Rattle.zone_object.proofs.Carried.{carried-ready, carried-holds}
 use Rattle.peer_zone.specs.Records.{peer_at, fresh_record, servers_of}
-use Rattle.peer_zone.specs.Choice.{change_at, freed, Choice}
-use Rattle.peer_zone.specs.Object.{Made, is_single, list_of, with_list, available, choice_of, reply_for, answer_of, zone_after, IsMoment, once_at, given, given_by, back, back_by, Permits, conns_at, IsServer, HasRoom, IsReadyAt, Ready, CanAnswer}
-use Rattle.peer_zone.specs.Opening.{IsSpec, IsOpened, spec_of, opened_zone, grants_of}
-use Rattle.peer_zone.specs.Holding.{IsWithin, Holds, greatest_move}
+use Rattle.peer_zone.specs.Choice.{change_at, freed}
+use Rattle.peer_zone.specs.Object.{Made, is_single, list_of, with_list, available, choice_of, reply_for, answer_of, zone_after, once_at, given, back, back_by, Permits, conns_at, HasRoom, IsReadyAt, Ready, CanAnswer}
+use Rattle.peer_zone.specs.Opening.{IsSpec, IsOpened, spec_of, opened_zone}
+use Rattle.peer_zone.specs.Holding.{IsWithin, Holds}
 use Rattle.peer_zone.specs.Proving.Kept.{IsChoice, choose-is, conns-less, conns-freed, servers-freed, All-freed, All-still}
 use Rattle.peer_zone.specs.Proving.Blocks.{opened-whole}
 use Rattle.peer_zone.specs.Proving.Lists.{whole-with, All-fresh, conns-fresh, HasRoom-within, primary_few, backup_few, spec-with, slab-with, blocks-with, Both, both-with, choose-moves, free-moves, few_of, within_of}
-use Rattle.peer_zone.specs.Proving.Chosen.{TakesPart, chosen-takes}
+use Rattle.peer_zone.specs.Proving.Chosen.{chosen-takes}
 
 module _ {X : Type 0} where
   -- ---- a caller that frees a server was given it

@@ -1,7 +1,6 @@
 -- How a zone is opened: the grants in their order, the first that gives none, and the state afterwards.
 use Rattle.std.specs.Prelude.{◌≡◌, ℕ, ◌+◌, ◌<◌, ◌≤◌, List, [], ◌∷◌, ◌++◌, map, length, Option, Some, None, option_and_then}
 use Rattle.std.specs.List.{All}
-use Rattle.slab_model.specs.declared.shape.Shape.{Shape}
 use Rattle.slab_model.specs.Geometry.{IsInLimits}
 use Rattle.slab_model.specs.State.{Slab, fresh_slab}
 use Rattle.slab_model.specs.Grant.{grant}

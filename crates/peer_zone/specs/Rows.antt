@@ -1,5 +1,5 @@
 -- Worked rows, which the definitions compute.
-use Rattle.std.specs.Prelude.{◌≡◌, ℕ, zero, suc, Bool, true, false, List, [], ◌∷◌, ◌++◌, replicate, map, pos, Option, Some, None, ℤ}
+use Rattle.std.specs.Prelude.{◌≡◌, ℕ, zero, suc, true, false, List, [], ◌∷◌, ◌++◌, replicate, map, pos, Some, None, ℤ}
 use Rattle.peer_zone.specs.declared.calls.Server.{Server}
 use Rattle.peer_zone.specs.declared.calls.Method.{Method}
 use Rattle.peer_zone.specs.declared.calls.Method.TheVariants.{Round, Least}

@@ -24,7 +24,7 @@ pub fn laws()
 /// What holds of every history of an upstream's zone, for any type of its object: each call is ready at its place, and
 /// afterwards the zone is what it was opened as but for its servers' numbers, with the requests that each server was
 /// given and that have not freed it. Nothing runs.
-pub fn histories<X>()
+pub fn history_laws<X>()
     ensures ready { (start : PeerState) (log : List (Made X)) → IsHistory IsOpened answer_of zone_after Permits start log → IsReady zone_after Ready start log }
     ensures holds { (start : PeerState) (log : List (Made X)) → IsHistory IsOpened answer_of zone_after Permits start log → Holds start log (run zone_after start log) }
 {}

@@ -1,5 +1,5 @@
 -- The blocks of a zone that was just opened.
-use Rattle.std.proofs.Common.{ℕ, ◌≡◌, ◌≢◌, ◌+◌, ◌*◌, ◌<◌, ◌≤◌, Bool, true, false, cond, eqb, ltb, List, [], ◌∷◌, ◌++◌, length, Option, Some, None, refl, sym, ap, subst, ◌∙◌, inl, inr, arith}
+use Rattle.std.proofs.Common.{ℕ, ◌≡◌, ◌≢◌, ◌+◌, ◌*◌, ◌<◌, Bool, true, false, cond, eqb, ltb, List, [], ◌∷◌, ◌++◌, length, Option, Some, None, refl, sym, ap, subst, ◌∙◌, inl, inr, arith}
 use Rattle.std.specs.List.{All, AllZip}
 use Rattle.std.proofs.lemmas.Bool.{cases_eq, lt-ltb}
 use Rattle.std.proofs.lemmas.Bool.Decides.{nat_tests}
@@ -17,7 +17,7 @@ use Rattle.slab_model.proofs.BlockLaws.{grant-grants, fresh-law}
 use Rattle.peer_zone.specs.declared.calls.Server.{Server}
 use Rattle.peer_zone.specs.declared.calls.PeerSpec.{PeerSpec}
 use Rattle.peer_zone.specs.declared.state.PeerState.{PeerState}
-use Rattle.peer_zone.specs.Opening.{Request, Granted, besides, context_size, name_size, list_size, record_size, record_requests, backup_requests, first_granted, grant_all, pool_of, requests_of, grants_of, opened_zone, spec_of, IsSpec, IsOpened}
+use Rattle.peer_zone.specs.Opening.{Request, Granted, besides, context_size, name_size, list_size, record_size, record_requests, backup_requests, first_granted, grant_all, pool_of, requests_of, grants_of, spec_of, IsSpec, IsOpened}
 use Rattle.peer_zone.specs.Holding.{named_at, live_at, IsGranted, AreWhole, IsWhole}
 
 -- ---- a grant keeps the shape
@@ -102,14 +102,14 @@ adds-one slab request requests at later sound some given shape rest =
       sound = rest.sound;
       named = λ other. elim (cases_eq at other) [
         | inl same ↦
-          let one : cond {A = ℕ} (eqb at other) 1 0 ≡ 1 = ap (λ n. cond {A = ℕ} (eqb at n) 1 0) (sym same) ∙ named-here at in
-          let was = live-none slab other (ap (λ n. live_bytes slab n) (sym same) ∙ g.0.fresh) in
-          let now = live-some new other (subst (λ n. 0 < live_bytes new n) same live) in
-          omega (arith, named-more at later.blocks other, one, was, now, rest.named other)
+            let one : cond {A = ℕ} (eqb at other) 1 0 ≡ 1 = ap (λ n. cond {A = ℕ} (eqb at n) 1 0) (sym same) ∙ named-here at in
+            let was = live-none slab other (ap (λ n. live_bytes slab n) (sym same) ∙ g.0.fresh) in
+            let now = live-some new other (subst (λ n. 0 < live_bytes new n) same live) in
+            omega (arith, named-more at later.blocks other, one, was, now, rest.named other)
         | inr ne ↦
-          let none = named-there at other ne in
-          let stays = live-same slab new other (g.0.others other (λ e. ne (sym e))) in
-          omega (arith, named-more at later.blocks other, none, stays, rest.named other)
+            let none = named-there at other ne in
+            let stays = live-same slab new other (g.0.others other (λ e. ne (sym e))) in
+            omega (arith, named-more at later.blocks other, none, stays, rest.named other)
       ];
       kept = λ other was. let stays = g.0.others other (λ e. let gone = ap (λ n. live_bytes slab n) e ∙ g.0.fresh in absurd (omega (arith, was, gone))) in rest.kept other (let s = stays in omega (arith, s, was)) ∙ stays;
       granted = (rest.kept at live ∙ g.0.bytes ∙ sym (bytes-same slab later.slab request.size shape), rest.granted);

@@ -1,11 +1,11 @@
 -- Whom a choice of any kind chooses.
-use Rattle.std.proofs.Common.{ℕ, zero, suc, ◌≡◌, ◌+◌, ◌<◌, ◌≤◌, Bool, true, false, cond, List, [], ◌∷◌, length, Option, Some, None, refl, sym, ap, subst, ◌∙◌, arith}
-use Rattle.std.specs.Prelude.{◌*◌, ◌&&◌, nat_lt, nat_le, nat_eq}
+use Rattle.std.proofs.Common.{ℕ, ◌≡◌, ◌≤◌, Bool, true, false, cond, List, [], ◌∷◌, length, Option, Some, None, refl, ap, subst, arith}
+use Rattle.std.specs.Prelude.{◌*◌, nat_lt, nat_le, nat_eq}
 use Rattle.peer_zone.specs.declared.calls.Method.{Method}
 use Rattle.peer_zone.specs.declared.calls.Method.TheVariants.{Round, Least}
 use Rattle.peer_zone.specs.declared.state.PeerRecord.{PeerRecord}
 use Rattle.peer_zone.specs.Records.{peer_at}
-use Rattle.peer_zone.specs.Choice.{Part, Found, Choice, settled, raised_in, total_in, best_in, by_round, least_in, tied, is_as_busy, count_in, among_least, by_least, taken_alone, by_single, choose}
+use Rattle.peer_zone.specs.Choice.{Part, Found, Choice, settled, raised_in, total_in, best_in, by_round, least_in, tied, count_in, among_least, taken_alone, by_single, choose}
 use Rattle.peer_zone.specs.Proving.Found.{IsFound, IsNobody, some_same, both-first, best-found, best-none, nobody-best, nobody-raised, least-none, nobody-least, nobody_head, nobody_more, found_somebody}
 use Rattle.peer_zone.specs.Proving.Kept.{least-there}
 

@@ -1,6 +1,6 @@
 -- What a choice and the end of a request keep and change of the records.
-use Rattle.std.proofs.Common.{ℕ, zero, suc, ◌≡◌, ◌≢◌, ◌+◌, ◌-◌, ◌*◌, ◌^◌, ◌<◌, ◌≤◌, ◌⊎◌, inl, inr, Bool, true, false, cond, List, [], ◌∷◌, length, map, Option, Some, None, refl, sym, ap, subst, ◌∙◌, arith}
-use Rattle.std.specs.Prelude.{◌&&◌, nat_eq, nat_lt, ℤ, pos, neg_ℤ, ◌≤ℤ◌, ◌+ℤ◌, ◌-ℤ◌}
+use Rattle.std.proofs.Common.{ℕ, zero, suc, ◌≡◌, ◌≢◌, ◌+◌, ◌-◌, ◌*◌, ◌^◌, ◌<◌, ◌≤◌, ◌⊎◌, inl, inr, Bool, true, false, cond, List, [], ◌∷◌, length, Option, Some, None, refl, sym, ap, subst, ◌∙◌, arith}
+use Rattle.std.specs.Prelude.{nat_eq, nat_lt, ℤ, pos, neg_ℤ, ◌≤ℤ◌, ◌+ℤ◌, ◌-ℤ◌}
 use Rattle.std.specs.List.{All}
 use Rattle.std.proofs.lemmas.Int.{ints}
 use Rattle.std.proofs.lemmas.Bool.Decides.{nat_tests}
@@ -10,10 +10,10 @@ use Rattle.peer_zone.specs.declared.calls.Method.{Method}
 use Rattle.peer_zone.specs.declared.calls.Method.TheVariants.{Round, Least}
 use Rattle.peer_zone.specs.declared.state.PeerRecord.{PeerRecord}
 use Rattle.peer_zone.specs.Records.{peer_at, servers_of}
-use Rattle.peer_zone.specs.Choice.{Part, Found, Choice, change_at, taken, settled, raised, raised_in, total_in, best_in, by_round, least_in, tied, count_in, among_least, by_least, taken_alone, by_single, choose, let_go, failure_cost, blamed, trusted, freed}
+use Rattle.peer_zone.specs.Choice.{Part, Found, Choice, change_at, taken, settled, raised, raised_in, total_in, best_in, by_round, least_in, tied, count_in, among_least, by_least, taken_alone, by_single, choose, let_go, blamed, trusted, freed}
 use Rattle.peer_zone.specs.Object.{IsServer, IsMoment, conns_at}
 use Rattle.peer_zone.specs.Holding.{IsWithin, greatest_move}
-use Rattle.peer_zone.specs.Proving.Found.{IsFound, some_same, both-first, best-found, least-found}
+use Rattle.peer_zone.specs.Proving.Found.{IsFound, some_same, best-found, least-found}
 
 -- ---- one record becomes another
 
