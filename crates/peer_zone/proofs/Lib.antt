@@ -3,3 +3,4 @@ mod OpeningLaws
 mod SumLaws
 mod RefusedLaws
 mod LeastLaws
+mod BlockLaws

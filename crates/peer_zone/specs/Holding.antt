@@ -1,5 +1,5 @@
 -- What calls of an upstream's zone carry along a history.
-use Rattle.std.specs.Prelude.{◌≡◌, ℕ, ◌+◌, ◌*◌, ◌^◌, ◌<◌, ◌≤◌, pos, neg_ℤ, ◌≤ℤ◌, nat_eq, nat_lt, List, length, sum_by, if◌then◌else◌}
+use Rattle.std.specs.Prelude.{◌≡◌, ℕ, ◌+◌, ◌*◌, ◌^◌, ◌<◌, ◌≤◌, pos, neg_ℤ, ◌≤ℤ◌, nat_eq, nat_lt, List, length, take, drop, slice_index, sum_by, if◌then◌else◌}
 use Rattle.std.specs.List.{All, AllZip}
 use Rattle.slab_model.specs.State.{Slab}
 use Rattle.slab_model.specs.Blocks.{live_bytes}
@@ -8,7 +8,7 @@ use Rattle.slab_model.specs.Soundness.{IsSound}
 use Rattle.peer_zone.specs.declared.state.PeerRecord.{PeerRecord}
 use Rattle.peer_zone.specs.declared.state.PeerState.{PeerState}
 use Rattle.peer_zone.specs.Object.{Made, given, back, conns_at, list_of, IsServer, IsMoment}
-use Rattle.peer_zone.specs.Opening.{Request, IsSpec, requests_of, spec_of}
+use Rattle.peer_zone.specs.Opening.{Request, context_size, name_size, list_size, record_size, IsSpec, requests_of, spec_of}
 
 -- how often `at` is one of these blocks
 abbrev pub named_at : List ℕ → ℕ → ℕ
@@ -31,6 +31,43 @@ pub record AreWhole (slab : Slab) (requests : List Request) (blocks : List ℕ) 
 -- the zone's blocks are those of its context, its name, its lists and its records
 abbrev pub IsWhole : PeerState → Type 0
 IsWhole s = AreWhole s.slab (requests_of (spec_of s)) s.blocks
+
+-- ---- which block is which
+
+abbrev pub context_block : PeerState → ℕ
+context_block s = slice_index s.blocks 0
+
+abbrev pub name_block : PeerState → ℕ
+name_block s = slice_index s.blocks 1
+
+-- the block that heads the primary list, and the one that heads the backup list where there are backups
+abbrev pub primary_block : PeerState → ℕ
+primary_block s = slice_index s.blocks 2
+
+abbrev pub backup_block : PeerState → ℕ
+backup_block s = slice_index (drop (length s.primary) (drop 3 s.blocks)) 0
+
+-- the blocks of the records of each list, in their order
+abbrev pub primary_records : PeerState → List ℕ
+primary_records s = take (length s.primary) (drop 3 s.blocks)
+
+abbrev pub backup_records : PeerState → List ℕ
+backup_records s = drop 1 (drop (length s.primary) (drop 3 s.blocks))
+
+-- the block was granted for the record
+abbrev pub HasRecord : Slab → PeerRecord → ℕ → Type 0
+HasRecord slab p at = live_bytes slab at ≡ block_bytes slab (record_size p.server)
+
+-- each block was granted for what it holds
+pub record HasBlocks (s : PeerState) : Type 0 where
+  pub context : live_bytes s.slab (context_block s) ≡ block_bytes s.slab context_size
+  pub name : live_bytes s.slab (name_block s) ≡ block_bytes s.slab (name_size s.name)
+  pub primary_list : live_bytes s.slab (primary_block s) ≡ block_bytes s.slab list_size
+  pub backup_list : 0 < length s.backup → live_bytes s.slab (backup_block s) ≡ block_bytes s.slab list_size
+  pub primary : AllZip (HasRecord s.slab) s.primary (primary_records s)
+  pub backup : AllZip (HasRecord s.slab) s.backup (backup_records s)
+
+-- ---- along a history
 
 -- by how much a call moves a current at most: 64 servers of weight 65,535 weigh less
 abbrev pub greatest_move : ℕ

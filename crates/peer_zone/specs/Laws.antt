@@ -11,6 +11,7 @@ use Rattle.peer_zone.specs.Records.{peer_at}
 use Rattle.peer_zone.specs.Choice.{raised, is_less_busy}
 use Rattle.peer_zone.specs.Object.{is_single, list_of, list_asked, available, answer_of, zone_after, Ready, CanAnswer}
 use Rattle.peer_zone.specs.Opening.{IsSpec, IsOpened, refused_server, grants_of, opened_zone, spec_of}
+use Rattle.peer_zone.specs.Holding.{IsWhole, HasBlocks}
 
 -- the list has a server of this index with this record, and it is available
 pub record IsAvailable (s : PeerState) (list tried now index : ℕ) (p : PeerRecord) : Type 0 where
@@ -57,6 +58,10 @@ RefusedLaw = (spec : PeerSpec) → IsSpec spec → refused_server spec ≡ None 
 -- a zone that is opened with these was opened with these, and is where a history may begin
 abbrev pub OpenedLaw : Type 0
 OpenedLaw = (spec : PeerSpec) → IsSpec spec → (grants_of spec).refused ≡ None → (spec_of (opened_zone spec) ≡ spec) × IsOpened (opened_zone spec)
+
+-- the blocks of a whole zone by what they hold
+abbrev pub BlocksLaw : Type 0
+BlocksLaw = (s : PeerState) → IsWhole s → HasBlocks s
 
 -- what a ready call is answered is a reply that it can be given
 abbrev pub AnswerLaw : Type 0

@@ -4,7 +4,7 @@ ghost use Rattle.peer_zone.specs.declared.state.PeerState.{PeerState};
 ghost use Rattle.peer_zone.specs.Object.{Made, answer_of, zone_after, Permits, Ready};
 ghost use Rattle.peer_zone.specs.Opening.{IsOpened};
 ghost use Rattle.peer_zone.specs.Holding.{Holds};
-ghost use Rattle.peer_zone.specs.Laws.{NoPeerLaw, NoChangeLaw, ChosenLaw, NearestLaw, LeastLaw, SumLaw, RefusedLaw, OpenedLaw, AnswerLaw, StartLaw};
+ghost use Rattle.peer_zone.specs.Laws.{NoPeerLaw, NoChangeLaw, ChosenLaw, NearestLaw, LeastLaw, SumLaw, RefusedLaw, OpenedLaw, BlocksLaw, AnswerLaw, StartLaw};
 ghost use Rattle.peer_zone.specs.Rows.{CycleRow, TenCyclesRow, ReturnRow, BackupRow, SingleRow, LeastRow, TiesRow, FullRow, SmallRow};
 
 /// What holds of every choice and of every opening, as theorems over the definitions. Nothing runs.
@@ -17,6 +17,7 @@ pub fn laws()
     ensures sum { SumLaw }
     ensures refused { RefusedLaw }
     ensures opened { OpenedLaw }
+    ensures blocks { BlocksLaw }
     ensures answers { AnswerLaw }
     ensures start { StartLaw }
 {}

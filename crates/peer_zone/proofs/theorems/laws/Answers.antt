@@ -4,6 +4,7 @@ use Rattle.peer_zone.proofs.LeastLaws.{least-law}
 use Rattle.peer_zone.proofs.SumLaws.{sum-law}
 use Rattle.peer_zone.proofs.RefusedLaws.{refused-law}
 use Rattle.peer_zone.proofs.OpeningLaws.{opened-law}
+use Rattle.peer_zone.proofs.BlockLaws.{blocks-law}
 use Rattle.peer_zone.proofs.theorems.laws.Goals as goal
 
 pub returns : goal.returns
@@ -16,6 +17,7 @@ returns c = record {
   sum = sum-law;
   refused = refused-law;
   opened = opened-law;
+  blocks = blocks-law;
   answers = answer-law;
   start = start-law;
 }
