@@ -1,16 +1,14 @@
 -- The blocks of a whole zone by what they hold.
-use Rattle.std.proofs.Common.{ℕ, zero, suc, ◌≡◌, ◌+◌, ◌<◌, List, [], ◌∷◌, ◌++◌, length, take, drop, refl, sym, ap, subst, ◌∙◌, arith}
+use Rattle.std.proofs.Common.{ℕ, suc, ◌≡◌, ◌+◌, ◌<◌, List, [], ◌∷◌, ◌++◌, length, take, drop, refl, ap, subst, arith}
 use Rattle.std.specs.Prelude.{slice_index}
 use Rattle.std.specs.List.{AllZip}
 use Rattle.slab_model.specs.State.{Slab}
 use Rattle.slab_model.specs.Blocks.{live_bytes}
 use Rattle.slab_model.specs.Grant.{block_bytes}
-use Rattle.peer_zone.specs.declared.calls.Server.{Server}
 use Rattle.peer_zone.specs.declared.state.PeerRecord.{PeerRecord}
-use Rattle.peer_zone.specs.declared.state.PeerState.{PeerState}
 use Rattle.peer_zone.specs.Records.{servers_of}
 use Rattle.peer_zone.specs.Opening.{Request, besides, context_size, name_size, list_size, record_requests, backup_requests}
-use Rattle.peer_zone.specs.Holding.{IsGranted, HasRecord, IsWhole, HasBlocks}
+use Rattle.peer_zone.specs.Holding.{IsGranted, HasRecord}
 use Rattle.peer_zone.specs.Laws.{BlocksLaw}
 
 length-requests : (number : ℕ) (ps : List PeerRecord) → length (record_requests number (servers_of ps)) ≡ length ps

@@ -1,6 +1,5 @@
 mod ChoiceLaws
 mod OpeningLaws
-mod SumLaws
 mod RefusedLaws
 mod LeastLaws
 mod BlockLaws

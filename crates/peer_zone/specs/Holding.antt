@@ -1,5 +1,5 @@
 -- What calls of an upstream's zone carry along a history.
-use Rattle.std.specs.Prelude.{◌≡◌, ℕ, ◌+◌, ◌*◌, ◌^◌, ◌<◌, ◌≤◌, pos, neg_ℤ, ◌≤ℤ◌, nat_eq, nat_lt, List, length, take, drop, slice_index, sum_by, if◌then◌else◌}
+use Rattle.std.specs.Prelude.{◌≡◌, ℕ, ◌+◌, ◌*◌, ◌^◌, ◌<◌, ◌≤◌, ℤ, pos, neg_ℤ, ◌+ℤ◌, ◌≤ℤ◌, nat_eq, nat_lt, List, [], ◌∷◌, length, take, drop, slice_index, sum_by, if◌then◌else◌}
 use Rattle.std.specs.List.{All, AllZip}
 use Rattle.slab_model.specs.State.{Slab}
 use Rattle.slab_model.specs.Blocks.{live_bytes}
@@ -69,6 +69,11 @@ pub record HasBlocks (s : PeerState) : Type 0 where
 
 -- ---- along a history
 
+-- the sum of the currents
+abbrev pub current_sum : List PeerRecord → ℤ
+current_sum [] = pos 0
+current_sum (p ∷ ps) = p.current +ℤ current_sum ps
+
 -- by how much a call moves a current at most: 64 servers of weight 65,535 weigh less
 abbrev pub greatest_move : ℕ
 greatest_move = 2 ^ 22
@@ -84,7 +89,7 @@ pub record IsWithin (calls : ℕ) (p : PeerRecord) : Type 0 where
   pub checked : IsMoment p.checked
   pub accessed : IsMoment p.accessed
 
--- what the zone was opened with and its blocks stay, and it is whole; a server's connections are the requests that it was given to and that have not freed it
+-- what the zone was opened with and its blocks stay, and it is whole; the currents of each list add up to 0; a server's connections are the requests that it was given to and that have not freed it
 pub record Holds {X : Type 0} (start : PeerState) (log : List (Made X)) (s : PeerState) : Type 0 where
   pub spec : IsSpec (spec_of s)
   pub same : spec_of s ≡ spec_of start
@@ -93,4 +98,5 @@ pub record Holds {X : Type 0} (start : PeerState) (log : List (Made X)) (s : Pee
   pub whole : IsWhole s
   pub primary : All (IsWithin (length log)) s.primary
   pub backup : All (IsWithin (length log)) s.backup
+  pub balanced : (list : ℕ) → list < 2 → current_sum (list_of s list) ≡ pos 0
   pub held : (list index : ℕ) → list < 2 → conns_at (list_of s list) index + sum_by (back list index) log ≡ sum_by (given list index) log

@@ -1,5 +1,5 @@
 -- What holds of every choice and of every opening.
-use Rattle.std.specs.Prelude.{◌≡◌, ◌↔◌, ℕ, ◌<◌, true, false, ℤ, pos, ◌+ℤ◌, ◌≤ℤ◌, ◌<ℤ◌, List, [], ◌∷◌, Some, None}
+use Rattle.std.specs.Prelude.{◌≡◌, ◌↔◌, ℕ, ◌<◌, true, false, ◌≤ℤ◌, ◌<ℤ◌, Some, None}
 use Rattle.peer_zone.specs.declared.calls.Method.TheVariants.{Round, Least}
 use Rattle.peer_zone.specs.declared.calls.PeerSpec.{PeerSpec}
 use Rattle.peer_zone.specs.declared.calls.PeerCall.{PeerCall}
@@ -11,7 +11,7 @@ use Rattle.peer_zone.specs.Records.{peer_at}
 use Rattle.peer_zone.specs.Choice.{raised, is_less_busy}
 use Rattle.peer_zone.specs.Object.{is_single, list_of, list_asked, available, answer_of, zone_after, Ready, CanAnswer}
 use Rattle.peer_zone.specs.Opening.{IsSpec, IsOpened, refused_server, grants_of, opened_zone, spec_of}
-use Rattle.peer_zone.specs.Holding.{IsWhole, HasBlocks}
+use Rattle.peer_zone.specs.Holding.{IsWhole, HasBlocks, current_sum}
 
 -- the list has a server of this index with this record, and it is available
 pub record IsAvailable (s : PeerState) (list tried now index : ℕ) (p : PeerRecord) : Type 0 where
@@ -41,11 +41,6 @@ NearestLaw = (s : PeerState) (list tried now index : ℕ) (p : PeerRecord) → i
 -- in a ready zone no available server is less busy for its weight than the one that least connections choose
 abbrev pub LeastLaw : Type 0
 LeastLaw = (s : PeerState) (list tried now index : ℕ) (p : PeerRecord) → Ready s (Choose list tried now) → is_single s ≡ false → s.method ≡ Least → answer_of s (Choose list tried now) ≡ Peer index → peer_at (list_of s list) index ≡ Some p → (other : ℕ) (q : PeerRecord) → IsAvailable s list tried now other q → is_less_busy q p ≡ false
-
--- the sum of the currents
-abbrev pub current_sum : List PeerRecord → ℤ
-current_sum [] = pos 0
-current_sum (p ∷ ps) = p.current +ℤ current_sum ps
 
 -- what a round gives to all it takes from the one that it chooses: no call changes the sum of a list's currents
 abbrev pub SumLaw : Type 0

@@ -1,6 +1,6 @@
 -- The laws of an upstream's zone.
 use Rattle.std.proofs.Common.{◌≡◌, ℕ, zero, suc, ◌+◌, ◌<◌, ◌≤◌, ◌^◌, ◌⊎◌, Bool, true, false, cond, List, [], ◌∷◌, ◌++◌, length, map, Option, Some, None, refl, sym, ap, ◌∙◌, subst, inl, inr, arith, length-append}
-use Rattle.std.specs.Prelude.{◌&&◌, nat_eq, sum_by}
+use Rattle.std.specs.Prelude.{◌&&◌, nat_eq, sum_by, pos}
 use Rattle.std.specs.List.{All}
 use Rattle.std.proofs.lemmas.List.Elements.{All-weaker}
 use Rattle.peer_zone.specs.declared.calls.PeerCall.{PeerCall}
@@ -17,11 +17,16 @@ use Rattle.peer_zone.specs.Records.{peer_at, fresh_record, servers_of}
 use Rattle.peer_zone.specs.Choice.{change_at, freed}
 use Rattle.peer_zone.specs.Object.{Made, is_single, list_of, with_list, available, choice_of, reply_for, answer_of, zone_after, once_at, given, back, back_by, Permits, conns_at, HasRoom, IsReadyAt, Ready, CanAnswer}
 use Rattle.peer_zone.specs.Opening.{IsSpec, IsOpened, spec_of, opened_zone}
-use Rattle.peer_zone.specs.Holding.{IsWithin, Holds}
+use Rattle.peer_zone.specs.Holding.{current_sum, IsWithin, Holds}
 use Rattle.peer_zone.specs.Proving.Kept.{IsChoice, choose-is, conns-less, conns-freed, servers-freed, All-freed, All-still}
+use Rattle.peer_zone.specs.Proving.Sums.{sum-law}
 use Rattle.peer_zone.specs.Proving.Blocks.{opened-whole}
-use Rattle.peer_zone.specs.Proving.Lists.{whole-with, All-fresh, conns-fresh, HasRoom-within, primary_few, backup_few, spec-with, slab-with, blocks-with, Both, both-with, choose-moves, free-moves, few_of, within_of}
+use Rattle.peer_zone.specs.Proving.Lists.{sum-fresh, whole-with, All-fresh, conns-fresh, HasRoom-within, primary_few, backup_few, spec-with, slab-with, blocks-with, Both, both-with, choose-moves, free-moves, few_of, within_of}
 use Rattle.peer_zone.specs.Proving.Chosen.{chosen-takes}
+
+-- the sum of a list's currents stays
+abbrev Balances : PeerState → PeerState → Type 0
+Balances s after = (l : ℕ) → l < 2 → current_sum (list_of after l) ≡ current_sum (list_of s l)
 
 module _ {X : Type 0} where
   -- ---- a caller that frees a server was given it
@@ -54,6 +59,7 @@ module _ {X : Type 0} where
     whole = opened-whole s o;
     primary = subst (λ (ps : List PeerRecord). All (IsWithin 0) ps) (sym primary_is) (All-fresh (servers_of s.primary) o.spec.primary);
     backup = subst (λ (ps : List PeerRecord). All (IsWithin 0) ps) (sym backup_is) (All-fresh (servers_of s.backup) o.spec.backup);
+    balanced = λ list _. sums (nat_eq list 0);
     held = λ list index _. let none = go (nat_eq list 0) index in omega (arith, none);
   } where
     primary_is : s.primary ≡ map fresh_record (servers_of s.primary)
@@ -61,6 +67,10 @@ module _ {X : Type 0} where
 
     backup_is : s.backup ≡ map fresh_record (servers_of s.backup)
     backup_is = ap (λ (t : PeerState). t.backup) o.fresh
+
+    sums : (b : Bool) → current_sum (cond b s.primary s.backup) ≡ pos 0
+    sums true = ap (λ (ps : List PeerRecord). current_sum ps) primary_is ∙ sum-fresh (servers_of s.primary)
+    sums false = ap (λ (ps : List PeerRecord). current_sum ps) backup_is ∙ sum-fresh (servers_of s.backup)
 
     go : (b : Bool) (index : ℕ) → conns_at (cond b s.primary s.backup) index ≡ 0
     go true index = ap (λ (ps : List PeerRecord). conns_at ps index) primary_is ∙ conns-fresh (servers_of s.primary) index
@@ -93,8 +103,8 @@ module _ {X : Type 0} where
   abbrev Moves : PeerState → PeerState → Made X → Type 0
   Moves s after e = (l index : ℕ) → l < 2 → conns_at (list_of after l) index + back l index e ≡ conns_at (list_of s l) index + given l index e
 
-  changed : (start : PeerState) (log : List (Made X)) (s : PeerState) (e : Made X) (list : ℕ) (peers : List PeerRecord) → Holds start log s → All (IsWithin (length log + 1)) peers → servers_of peers ≡ servers_of (list_of s list) → Moves s (with_list s list peers) e → Holds start (log ++ e ∷ []) (with_list s list peers)
-  changed start log s e list peers h new same moves = record {
+  changed : (start : PeerState) (log : List (Made X)) (s : PeerState) (e : Made X) (list : ℕ) (peers : List PeerRecord) → Holds start log s → All (IsWithin (length log + 1)) peers → servers_of peers ≡ servers_of (list_of s list) → Moves s (with_list s list peers) e → Balances s (with_list s list peers) → Holds start (log ++ e ∷ []) (with_list s list peers)
+  changed start log s e list peers h new same moves balances = record {
     spec = subst IsSpec (sym (spec-with s list peers same)) h.spec;
     same = spec-with s list peers same ∙ h.same;
     slab = slab-with s list peers ∙ h.slab;
@@ -102,6 +112,7 @@ module _ {X : Type 0} where
     whole = whole-with s list peers same h.whole;
     primary = subst (λ n. All (IsWithin n) (with_list s list peers).primary) (sym longer) both.primary;
     backup = subst (λ n. All (IsWithin n) (with_list s list peers).backup) (sym longer) both.backup;
+    balanced = λ l l_is. balances l l_is ∙ h.balanced l l_is;
     held = λ l index l_is. let step = moves l index l_is in let held = h.held l index l_is in omega (arith, sum-snoc (back l index) log e, sum-snoc (given l index) log e, step, held);
   } where
     longer : length (log ++ e ∷ []) ≡ length log + 1
@@ -114,13 +125,13 @@ module _ {X : Type 0} where
   goes_on start log s who (Choose list tried now) h m r =
       let choice = choice_of s list tried now in
       let is : IsChoice (length log) (list_of s list) choice = choose-is (length log) now (is_single s) s.method (available s tried now) (list_of s list) r.asked.1 (few_of s list h.spec) (within_of (length log) s list h.primary h.backup) in
-      changed start log s (entry who (Choose list tried now) (reply_for choice.chosen)) list choice.peers h is.within is.servers (choose-moves s list tried now choice.peers choice.chosen r.asked.0 is.conns)
+      changed start log s (entry who (Choose list tried now) (reply_for choice.chosen)) list choice.peers h is.within is.servers (choose-moves s list tried now choice.peers choice.chosen r.asked.0 is.conns) (λ l l_is. sum-law s (Choose list tried now) l l_is r.asked.0)
   goes_on start log s who (Free list index failed now) h m r =
       let peers = change_at index (freed (is_single s) failed now) (list_of s list) in
       changed start log s (entry who (Free list index failed now) Freed) list peers h
       (All-freed (length log) now index (is_single s) failed (list_of s list) r.asked.1 (within_of (length log) s list h.primary h.backup))
       (servers-freed now index (is_single s) failed (list_of s list))
-      (free-moves s list index failed now peers r.asked.0 (conns-less (freed (is_single s) failed now) (conns-freed now (is_single s) failed) index (list_of s list) r.asked.2))
+      (free-moves s list index failed now peers r.asked.0 (conns-less (freed (is_single s) failed now) (conns-freed now (is_single s) failed) index (list_of s list) r.asked.2)) (λ l l_is. sum-law s (Free list index failed now) l l_is r.asked.0)
 
   carries : Carries {X = X} IsOpened answer_of zone_after Permits Ready Holds
   carries = record { begins = begins; readies = readies; goes_on = goes_on }

@@ -1,6 +1,6 @@
 -- The two lists of a zone: as they begin, with room for one call more, and with one of them changed.
 use Rattle.std.proofs.Common.{◌≡◌, ℕ, zero, suc, ◌+◌, ◌*◌, ◌<◌, ◌≤◌, ◌^◌, Bool, true, false, cond, List, [], ◌∷◌, length, map, Option, Some, None, refl, sym, ap, ◌∙◌, subst, arith}
-use Rattle.std.specs.Prelude.{nat_eq, pos, neg_ℤ, ◌≤ℤ◌, ℤ}
+use Rattle.std.specs.Prelude.{nat_eq, pos, neg_ℤ, ◌≤ℤ◌, ℤ, ◌+ℤ◌}
 use Rattle.std.specs.List.{All}
 use Rattle.std.proofs.lemmas.Int.{ints}
 use Rattle.std.proofs.lemmas.List.{length-map}
@@ -14,7 +14,7 @@ use Rattle.peer_zone.specs.declared.state.PeerState.{PeerState}
 use Rattle.peer_zone.specs.Records.{fresh_record, servers_of}
 use Rattle.peer_zone.specs.Object.{list_of, with_list, reply_for, given_by, back_by, conns_at, IsServer, HasRoom}
 use Rattle.peer_zone.specs.Opening.{IsSpec, requests_of, spec_of}
-use Rattle.peer_zone.specs.Holding.{AreWhole, IsWhole, IsWithin, greatest_move}
+use Rattle.peer_zone.specs.Holding.{current_sum, AreWhole, IsWhole, IsWithin, greatest_move}
 use Rattle.peer_zone.specs.Proving.Kept.{chosen_at, once, plus_none}
 
 -- ---- a fresh list
@@ -30,6 +30,13 @@ pub conns-fresh : (servers : List Server) (index : ℕ) → conns_at (map fresh_
 conns-fresh [] index = refl
 conns-fresh (server ∷ servers) zero = refl
 conns-fresh (server ∷ servers) (suc index) = conns-fresh servers index
+
+sum_none : (z : ℤ) → z ≡ pos 0 → (pos 0 +ℤ z) ≡ pos 0
+sum_none z none = omega (arith, ints, none)
+
+pub sum-fresh : (servers : List Server) → current_sum (map fresh_record servers) ≡ pos 0
+sum-fresh [] = refl
+sum-fresh (server ∷ servers) = sum_none (current_sum (map fresh_record servers)) (sum-fresh servers)
 
 -- ---- room for one call more
 

@@ -1,7 +1,7 @@
 use Rattle.peer_zone.specs.ObjectLaws.{answer-law, start-law}
 use Rattle.peer_zone.proofs.ChoiceLaws.{no_peer-law, no_change-law, chosen-law, nearest-law}
 use Rattle.peer_zone.proofs.LeastLaws.{least-law}
-use Rattle.peer_zone.proofs.SumLaws.{sum-law}
+use Rattle.peer_zone.specs.Proving.Sums.{sum-law}
 use Rattle.peer_zone.proofs.RefusedLaws.{refused-law}
 use Rattle.peer_zone.proofs.OpeningLaws.{opened-law}
 use Rattle.peer_zone.proofs.BlockLaws.{blocks-law}

@@ -10,7 +10,8 @@ use Rattle.peer_zone.specs.declared.state.PeerState.{PeerState}
 use Rattle.peer_zone.specs.Records.{peer_at}
 use Rattle.peer_zone.specs.Choice.{Part, Found, Choice, change_at, taken, settled, raised, raised_in, total_in, best_in, by_round, least_in, tied, count_in, among_least, by_least, taken_alone, by_single, choose, freed}
 use Rattle.peer_zone.specs.Object.{is_single, list_of, with_list, available, choice_of}
-use Rattle.peer_zone.specs.Laws.{current_sum, SumLaw}
+use Rattle.peer_zone.specs.Holding.{current_sum}
+use Rattle.peer_zone.specs.Laws.{SumLaw}
 use Rattle.peer_zone.specs.Proving.Found.{best-found, best-none, nobody-raised}
 use Rattle.peer_zone.specs.Proving.Kept.{found_there, there-raised, least-there}
 
