@@ -69,6 +69,10 @@ abbrev pub ReturnRow : Type 0
 ReturnRow = (answers_of weights_1_2_3 one_fails ≡ Peer 2 ∷ Peer 1 ∷ Peer 0 ∷ Peer 2 ∷ Peer 1 ∷ Peer 2 ∷ Freed ∷ Peer 1 ∷ Peer 0 ∷ Peer 1 ∷ [])
     × (answers_of (after_all weights_1_2_3 one_fails) (replicate 4 (Choose 0 0 11)) ≡ Peer 1 ∷ Peer 0 ∷ Peer 1 ∷ Peer 2 ∷ [])
 
+-- a request that has tried the first server, then the second too, then all three
+abbrev pub TriedRow : Type 0
+TriedRow = answers_of weights_5_1_1 (Choose 0 1 0 ∷ Choose 0 3 0 ∷ Choose 0 7 0 ∷ []) ≡ Peer 1 ∷ Peer 2 ∷ NoPeer ∷ []
+
 -- ---- a failure and a backup
 
 abbrev pub with_backup : PeerState
@@ -91,6 +95,18 @@ BackupRow = (answers_of with_backup failing_calls ≡ Peer 0 ∷ Freed ∷ NoPee
     × (checked_of (after_all with_backup failing_calls) ≡ 11 ∷ [])
     × (fails_of (after_all with_backup failing_calls) ≡ 1 ∷ [])
     × (fails_of (zone_after (after_all with_backup failing_calls) (Free 0 0 false 11)) ≡ 0 ∷ [])
+
+-- a choice up to the timeout's last second leaves the moment that was checked, and a later one sets it
+abbrev pub CheckedRow : Type 0
+CheckedRow = (checked_of (zone_after with_backup (Choose 0 0 10)) ≡ 0 ∷ []) × (checked_of (zone_after with_backup (Choose 0 0 11)) ≡ 11 ∷ [])
+
+-- a server that is down is never chosen, alone or with another
+abbrev pub is_down : Server
+is_down = record { address = 97 ∷ []; weight = 1; max_conns = 0; max_fails = 1; fail_timeout = 10; down = true }
+
+abbrev pub DownRow : Type 0
+DownRow = (answers_of (opened_zone (in_32_kib Round (is_down ∷ []) [])) (first_try ∷ []) ≡ NoPeer ∷ [])
+    × (answers_of (opened_zone (in_32_kib Round (is_down ∷ of_weight 1 ∷ []) [])) (first_try ∷ first_try ∷ []) ≡ Peer 1 ∷ Peer 1 ∷ [])
 
 -- an upstream's single server that failed is chosen again at once
 abbrev pub SingleRow : Type 0
