@@ -1,0 +1,76 @@
+use crate::bits::{begin_bits, first_unused, mark};
+use crate::lists::{first_page, push, type_of, unlink};
+use crate::places::descriptor_of;
+use crate::stats::{set_stat, stat};
+use slab_model::counts::{count_fail, count_grant};
+use slab_model::geometry::{
+    blocks_in_page, class_of, class_size, first_index, pages_for, usable_blocks,
+};
+use slab_pages::Pages;
+use zone_region::Block;
+
+/// The block of an index in a page of a class.
+fn block_at(pages: &Pages, class: u32, page: u64, index: u64) -> Block {
+    Block {
+        at: pages.geometry().start + 4096 * page + class_size(class) * index,
+    }
+}
+
+/// Grants the lowest free index of the first page of the class's list.
+fn grant_in_page(pages: &mut Pages, class: u32, page: u64) -> Block {
+    let index = first_unused(pages, class, page, first_index(class));
+    if first_unused(pages, class, page, index + 1) == blocks_in_page(class) {
+        unlink(pages, class, page);
+    }
+    mark(pages, class, page, index);
+    let counted = count_grant(stat(pages, class), 0);
+    set_stat(pages, class, counted);
+    block_at(pages, class, page, index)
+}
+
+/// Makes a taken page be one of the class, without a used index and in no list.
+fn begin_page(pages: &mut Pages, class: u32, page: u64) {
+    let o = descriptor_of(page);
+    pages.set_word(o / 8 + 2, type_of(class));
+    begin_bits(pages, class, page);
+}
+
+/// Grants the first block of a free page, which becomes the class's only listed page.
+fn grant_in_new_page(pages: &mut Pages, class: u32) -> Option<Block> {
+    let Some(page) = pages.take(1) else {
+        let counted = count_fail(stat(pages, class));
+        set_stat(pages, class, counted);
+        return None;
+    };
+    let index = first_index(class);
+    begin_page(pages, class, page.number);
+    mark(pages, class, page.number, index);
+    push(pages, class, page.number);
+    let counted = count_grant(stat(pages, class), usable_blocks(class));
+    set_stat(pages, class, counted);
+    Some(block_at(pages, class, page.number, index))
+}
+
+/// Grants a block of the class.
+fn grant_class(pages: &mut Pages, class: u32) -> Option<Block> {
+    match first_page(pages, class) {
+        Some(page) => Some(grant_in_page(pages, class, page)),
+        None => grant_in_new_page(pages, class),
+    }
+}
+
+/// Grants whole pages.
+fn grant_run(pages: &mut Pages, count: u64) -> Option<Block> {
+    let page = pages.take(count)?;
+    Some(Block {
+        at: pages.geometry().start + 4096 * page.number,
+    })
+}
+
+/// Grants a block of at least `size` bytes, if there is one.
+pub(crate) fn grant(pages: &mut Pages, size: u64) -> Option<Block> {
+    match class_of(size) {
+        Some(class) => grant_class(pages, class),
+        None => grant_run(pages, pages_for(size)),
+    }
+}

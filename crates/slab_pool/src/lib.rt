@@ -1,0 +1,17 @@
+//! The slab pool in the words of a zone, after `ngx_slab.c`.
+#![tactic(auto)]
+
+mod bits;
+pub mod fault;
+mod grants;
+mod lists;
+mod places;
+pub mod pool;
+mod returns;
+mod stats;
+
+pub use fault::FreeFault;
+pub use pool::Pool;
+
+#[cfg(test)]
+mod tests;
