@@ -1,9 +1,9 @@
 -- A run comes to the head of the list of free runs.
-use Rattle.std.proofs.Common.{ℕ, ◌≡◌, ◌≢◌, ◌⊎◌, ◌+◌, ◌*◌, ◌-◌, ◌/◌, ◌<◌, ◌≤◌, true, false, List, [], ◌∷◌, sym, subst, ◌∙◌, refl, arith, inl, inr}
+use Rattle.std.proofs.Common.{ℕ, ◌≡◌, ◌≢◌, ◌⊎◌, ◌+◌, ◌/◌, ◌<◌, ◌≤◌, true, false, List, [], ◌∷◌, sym, subst, ◌∙◌, refl, arith, inl, inr}
 use Rattle.std.proofs.lemmas.Bool.{cases_lt}
 use Rattle.slab_model.specs.declared.runs.Run.{Run}
 use Rattle.slab_model.specs.Runs.{AreApart, IsApart, AreSound, is_covered}
-use Rattle.slab_pages.specs.Places.{free_head, pfree, descriptor, next_at, prev_at, IsPlace, Links, KeepsOthers, is_run_word}
+use Rattle.slab_pages.specs.Places.{free_head, pfree_word, descriptor, next_at, prev_at, IsPlace, Links, KeepsOthers, is_run_word, descriptor_word, descriptor_page, free_word}
 use Rattle.slab_pages.specs.Layout.{LaysFrom}
 use Rattle.slab_pages.specs.Steps.{SameWords, LaysList, IsBlank, BeginsRun, IsCleared, Relists}
 use Rattle.slab_pages.proofs.PlaceLemmas.{descriptor-word, descriptor-head, descriptor-injective, descriptor-other, SameWords-then, Links-slab, Links-next, Links-prev, Links-prev_head}
@@ -19,7 +19,7 @@ begun_other old new run page h beyond = record {
 }
 
 pub begun_head : (old new : List ℕ) (run : Run) → BeginsRun old new run → SameWords old new free_head
-begun_head old new run h = record { slab = h.others 6 (inl (omega arith)); next = h.others 7 (inl (omega arith)); prev = h.others 8 (inl (omega arith)) }
+begun_head old new run h = record { slab = h.others free_word (inl (omega arith)); next = h.others (free_word + 1) (inl (omega arith)); prev = h.others (free_word + 2) (inl (omega arith)) }
 
 -- words outside a part of the runs
 pub begun_kept : (old new : List ℕ) (run : Run) (runs : List Run) → ((page : ℕ) → run.first ≤ page → page < run.first + run.pages → is_covered page runs ≡ true) → BeginsRun old new run → KeepsOthers runs old new
@@ -27,12 +27,12 @@ begun_kept old new run runs covered h = record {
   same_length = h.same_length;
   others = λ w list is. h.others w (far runs run w covered is);
 } where
-  far : (runs : List Run) (run : Run) (w : ℕ) → ((page : ℕ) → run.first ≤ page → page < run.first + run.pages → is_covered page runs ≡ true) → is_run_word runs w ≡ false → (w < 88 + 3 * run.first) ⊎ (88 + 3 * (run.first + run.pages) ≤ w)
-  far runs run w covered is = elim (cases_lt w (88 + 3 * run.first)) [
+  far : (runs : List Run) (run : Run) (w : ℕ) → ((page : ℕ) → run.first ≤ page → page < run.first + run.pages → is_covered page runs ≡ true) → is_run_word runs w ≡ false → (w < descriptor_word run.first) ⊎ (descriptor_word (run.first + run.pages) ≤ w)
+  far runs run w covered is = elim (cases_lt w (descriptor_word run.first)) [
     | inl l ↦ inl l
-    | inr g ↦ elim (cases_lt w (88 + 3 * (run.first + run.pages))) [
+    | inr g ↦ elim (cases_lt w (descriptor_word (run.first + run.pages))) [
       | inl inside ↦
-          let page = (w - 88) / 3 in
+          let page = descriptor_page w in
           let c = covered page (omega (arith, g)) (omega (arith, g, inside)) in
           elim (beyond_run runs page w c is) [ inl l ↦ absurd (omega (arith, l, g, descriptor-word page)) | inr after ↦ absurd (omega (arith, after, g, descriptor-word page)) ]
       | inr after ↦ inr after
@@ -119,7 +119,7 @@ added count runs run old mid next new h clear begins one two =
         );
       };
       kept = kept_then (run ∷ runs) old next new (kept_then (run ∷ runs) old mid next (begun_kept old mid run (run ∷ runs) (λ page low high. covered-first run runs page low high) begins) (links_kept mid next o n (run ∷ runs) here there one)) (links_kept next new free_head o (run ∷ runs) (inl refl) here two);
-      free = links_free next new free_head o head po two ∙ links_free mid next o n po pn one ∙ begins.others pfree (inl (omega arith));
+      free = links_free next new free_head o head po two ∙ links_free mid next o n po pn one ∙ begins.others pfree_word (inl (omega arith));
     } where
       not_node : (runs : List Run) (run : Run) (page n : ℕ) → IsApart run runs → run.first ≤ page → page < run.first + run.pages → IsNode n runs → descriptor page ≢ n
       not_node runs run page n apart low high node e = elim node [

@@ -10,9 +10,9 @@ use Rattle.slab_model.specs.Numbers.{is_member}
 use Rattle.slab_model.specs.Runs.{is_covered}
 use Rattle.slab_model.specs.Slab.{Slab, IsSound, page_at, list_of, is_full, is_free, has_room}
 use Rattle.slab_model.proofs.StateLemmas.{has_room-own}
-use Rattle.slab_pages.specs.Places.{descriptor, prev_at}
+use Rattle.slab_pages.specs.Places.{descriptor, prev_at, class_head}
 use Rattle.slab_pages.specs.Layout.{LaysRuns, IsBusy, CanComeBack}
-use Rattle.slab_pages.specs.SlabLayout.{LaysSlab, LaysPages, class_head, type_of}
+use Rattle.slab_pages.specs.SlabLayout.{LaysSlab, LaysPages, type_of}
 use Rattle.slab_pages.proofs.PagesLemmas.{runs-unique}
 
 -- descriptors begin at multiples of 8, so the low bits of a link are free for the type

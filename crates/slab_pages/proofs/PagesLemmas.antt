@@ -1,11 +1,11 @@
 -- The list of free runs in the words of a zone of known bytes.
-use Rattle.std.proofs.Common.{ℕ, ◌≡◌, ◌≢◌, ◌+◌, ◌*◌, ◌/◌, ◌≤◌, false, List, [], ◌∷◌, length, get_or, set, sym, ap, subst, ◌∙◌, refl, arith, inl, inr}
+use Rattle.std.proofs.Common.{ℕ, ◌≡◌, ◌≢◌, ◌+◌, ◌/◌, ◌≤◌, false, List, [], ◌∷◌, length, get_or, set, sym, ap, subst, ◌∙◌, refl, arith, inl, inr}
 use Rattle.std.proofs.lemmas.Grind.{common_steps}
 use Rattle.slab_model.specs.declared.runs.Run.{Run}
 use Rattle.slab_model.specs.Geometry.{pages_of, most_pages, start_of, least_zone, greatest_zone}
 use Rattle.slab_model.specs.Runs.{page_total, take_run, give_run}
 use Rattle.slab_model.proofs.RunLemmas.{page_total-give}
-use Rattle.slab_pages.specs.Places.{Image, free_head, pfree, descriptor, slab_at, is_list_word, is_run_word}
+use Rattle.slab_pages.specs.Places.{Image, free_head, pfree_word, descriptor, slab_at, is_list_word, is_run_word, page_limit, descriptor_word, free_word}
 use Rattle.slab_pages.specs.Layout.{LaysFrom, LaysRuns}
 use Rattle.slab_pages.specs.Steps.{LaysList, TakesRun, GivesRun}
 use Rattle.slab_pages.proofs.PlaceLemmas.{descriptor-head, descriptor-injective}
@@ -13,7 +13,7 @@ use Rattle.slab_pages.proofs.WriteLemmas.{get-written, length-written}
 use Rattle.slab_pages.proofs.UnlinkLemmas.{LaysList-kept, beyond_run}
 
 -- the descriptors lie in the zone
-pub pages-room : (bytes : ℕ) → least_zone ≤ bytes → bytes ≤ greatest_zone → (pages_of bytes ≤ 16384) × (88 + 3 * pages_of bytes ≤ bytes / 8)
+pub pages-room : (bytes : ℕ) → least_zone ≤ bytes → bytes ≤ greatest_zone → (pages_of bytes ≤ page_limit) × (descriptor_word (pages_of bytes) ≤ bytes / 8)
 unfolding pages_of most_pages start_of
 pages-room bytes low high = (omega arith, omega arith)
 
@@ -27,7 +27,7 @@ runs-list image runs low high h = let r = pages-room image.bytes low high in rec
   linked = h.linked;
 }
 
-pub list-runs : (bytes : ℕ) (words : List ℕ) (runs : List Run) → length words ≡ bytes / 8 → LaysList (pages_of bytes) words runs → get_or words pfree 0 ≡ page_total runs → LaysRuns (record { bytes = bytes; words = words }) runs
+pub list-runs : (bytes : ℕ) (words : List ℕ) (runs : List Run) → length words ≡ bytes / 8 → LaysList (pages_of bytes) words runs → get_or words pfree_word 0 ≡ page_total runs → LaysRuns (record { bytes = bytes; words = words }) runs
 list-runs bytes words runs sized h counted = record { sized = sized; sound = h.sound; slab_is = h.slab_is; prev_is = h.prev_is; linked = h.linked; counted = counted }
 
 -- the words tell the list
@@ -53,15 +53,15 @@ set_other bytes words new runs w v low high h list run is =
     let not = others w list in
     list-runs bytes new runs (length-written words new w v is ∙ h.sized)
     (LaysList-kept (pages_of bytes) words new runs (length-written words new w v is)
-    (record { slab = get-written words new w v 6 is (λ e. not.0 (sym e)); next = get-written words new w v 7 is (λ e. not.1 (sym e)); prev = get-written words new w v 8 is (λ e. not.2 (sym e)) })
+    (record { slab = get-written words new w v free_word is (λ e. not.0 (sym e)); next = get-written words new w v (free_word + 1) is (λ e. not.1 (sym e)); prev = get-written words new w v (free_word + 2) is (λ e. not.2 (sym e)) })
     (λ page c. let far = beyond_run runs page w c run in record {
       slab = get-written words new w v (descriptor page / 8) is (λ e. elim far [ inl l ↦ omega (arith, l, e) | inr g ↦ omega (arith, g, e) ]);
       next = get-written words new w v (descriptor page / 8 + 1) is (λ e. elim far [ inl l ↦ omega (arith, l, e) | inr g ↦ omega (arith, g, e) ]);
       prev = get-written words new w v (descriptor page / 8 + 2) is (λ e. elim far [ inl l ↦ omega (arith, l, e) | inr g ↦ omega (arith, g, e) ]);
     })
     (runs-list image runs low high h))
-    (get-written words new w v pfree is (λ e. not.3 (sym e)) ∙ h.counted) where
-      others : (w : ℕ) → is_list_word w ≡ false → (w ≢ 6) × (w ≢ 7) × (w ≢ 8) × (w ≢ 10)
+    (get-written words new w v pfree_word is (λ e. not.3 (sym e)) ∙ h.counted) where
+      others : (w : ℕ) → is_list_word w ≡ false → (w ≢ free_word) × (w ≢ free_word + 1) × (w ≢ free_word + 2) × (w ≢ pfree_word)
       others w list = (λ e. grind (arith, common_steps), λ e. grind (arith, common_steps), λ e. grind (arith, common_steps), λ e. grind (arith, common_steps))
 
 pub taken-runs : (bytes : ℕ) (words new : List ℕ) (runs : List Run) (first n : ℕ) → LaysRuns (record { bytes = bytes; words = words }) runs → TakesRun (pages_of bytes) runs words new first n → page_total (take_run n runs) + n ≡ page_total runs → LaysRuns (record { bytes = bytes; words = new }) (take_run n runs)

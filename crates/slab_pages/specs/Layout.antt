@@ -3,7 +3,7 @@ use Rattle.std.specs.Prelude.{ℕ, ◌≡◌, ◌≢◌, ◌⊎◌, ◌+◌, ◌
 use Rattle.slab_model.specs.declared.runs.Run.{Run}
 use Rattle.slab_model.specs.Geometry.{pages_of}
 use Rattle.slab_model.specs.Runs.{AreSound, is_covered, page_total}
-use Rattle.slab_pages.specs.Places.{Image, free_head, pfree, descriptor, slab_at, next_at, prev_at, HasWords}
+use Rattle.slab_pages.specs.Places.{Image, free_head, pfree_word, descriptor, slab_at, next_at, prev_at, HasWords}
 
 -- the later pages of a free run: zeros, and in the last one the way back to the first
 pub record HasTail (words : List ℕ) (run : Run) : Type 0 where
@@ -22,7 +22,7 @@ pub record LaysRuns (image : Image) (runs : List Run) : Type 0 where
   pub slab_is : slab_at image.words free_head ≡ 0
   pub prev_is : prev_at image.words free_head ≡ 0
   pub linked : LaysFrom image.words free_head runs
-  pub counted : slice_index image.words pfree ≡ page_total runs
+  pub counted : slice_index image.words pfree_word ≡ page_total runs
 
 -- the first page of a used run of so many pages, and its later pages
 pub record HasUsedRun (words : List ℕ) (page count : ℕ) : Type 0 where

@@ -1,36 +1,28 @@
 -- How a whole slab is laid out in the words of a zone.
-use Rattle.std.specs.Prelude.{ℕ, ◌≡◌, ◌⊎◌, ◌+◌, ◌*◌, ◌/◌, ◌%◌, ◌^◌, ◌<◌, ◌≤◌, ◌↔◌, true, List, [], ◌∷◌, slice_index, IsBitSet}
+use Rattle.std.specs.Prelude.{ℕ, ◌≡◌, ◌⊎◌, ◌+◌, ◌/◌, ◌%◌, ◌^◌, ◌<◌, ◌≤◌, ◌↔◌, true, List, [], ◌∷◌, slice_index, IsBitSet}
 use Rattle.slab_model.specs.declared.stat.Stat.{Stat}
 use Rattle.slab_model.specs.declared.page.PageState.TheVariants.{First, Class}
 use Rattle.slab_model.specs.Geometry.{pages_of, start_of, page_offset, class_count, blocks_in_page, first_index, kind_of, Kind, small, exact, big}
 use Rattle.slab_model.specs.Numbers.{is_member}
 use Rattle.slab_model.specs.Slab.{Slab, page_at, list_of, stat_of, is_full, opened}
-use Rattle.slab_pages.specs.Places.{Image, descriptor, slab_at, next_at, prev_at}
+use Rattle.slab_pages.specs.Places.{Image, byte_of, lock_word, wait_word, min_size_word, min_shift_word, pages_word, last_word, stats_word, start_word, end_word, mutex_word, log_ctx_word, zero_word, log_nomem_word, data_word, addr_word, stat_word, descriptor_word, class_head, descriptor, slab_at, next_at, prev_at}
 use Rattle.slab_pages.specs.Layout.{LaysRuns, HasUsedRun}
-
--- byte offset of the head of a class's list, which is laid out like a descriptor
-abbrev pub class_head : ℕ → ℕ
-class_head class = 200 + 24 * class
-
--- the first of the four words of a class's statistics
-abbrev pub stat_word : ℕ → ℕ
-stat_word class = 52 + 4 * class
 
 -- the pool header, but for the words of the page list, `log_ctx` and `data`
 pub record LaysHeader (bytes : ℕ) (words : List ℕ) : Type 0 where
-  pub lock : slice_index words 0 ≡ 0
-  pub wait : slice_index words 1 ≡ 0
-  pub min_size : slice_index words 2 ≡ 8
-  pub min_shift : slice_index words 3 ≡ 3
-  pub pages : slice_index words 4 ≡ descriptor 0
-  pub last : slice_index words 5 ≡ descriptor (pages_of bytes)
-  pub stats : slice_index words 9 ≡ 416
-  pub start : slice_index words 11 ≡ start_of bytes
-  pub end : slice_index words 12 ≡ bytes
-  pub mutex : (w : ℕ) → 13 ≤ w → w < 20 → slice_index words w ≡ 0
-  pub zero : slice_index words 21 ≡ 0
-  pub log_nomem : slice_index words 22 ≡ 0
-  pub addr : slice_index words 24 ≡ 0
+  pub lock : slice_index words lock_word ≡ 0
+  pub wait : slice_index words wait_word ≡ 0
+  pub min_size : slice_index words min_size_word ≡ 8
+  pub min_shift : slice_index words min_shift_word ≡ 3
+  pub pages : slice_index words pages_word ≡ descriptor 0
+  pub last : slice_index words last_word ≡ descriptor (pages_of bytes)
+  pub stats : slice_index words stats_word ≡ byte_of (stat_word 0)
+  pub start : slice_index words start_word ≡ start_of bytes
+  pub end : slice_index words end_word ≡ bytes
+  pub mutex : (w : ℕ) → mutex_word ≤ w → w < log_ctx_word → slice_index words w ≡ 0
+  pub zero : slice_index words zero_word ≡ 0
+  pub log_nomem : slice_index words log_nomem_word ≡ 0
+  pub addr : slice_index words addr_word ≡ 0
 
 -- the statistics of a class
 pub record LaysStat (words : List ℕ) (class : ℕ) (stat : Stat) : Type 0 where
@@ -99,6 +91,6 @@ pub record LaysSlab (words : List ℕ) (slab : Slab) : Type 0 where
 pub record IsOpened (bytes : ℕ) (image : Image) : Type 0 where
   pub bytes_are : image.bytes ≡ bytes
   pub laid : LaysSlab image.words (opened bytes)
-  pub log_ctx : slice_index image.words 20 ≡ 0
-  pub data_is : slice_index image.words 23 ≡ 0
-  pub rest : (w : ℕ) → 88 + 3 * pages_of bytes ≤ w → slice_index image.words w ≡ 0
+  pub log_ctx : slice_index image.words log_ctx_word ≡ 0
+  pub data_is : slice_index image.words data_word ≡ 0
+  pub rest : (w : ℕ) → descriptor_word (pages_of bytes) ≤ w → slice_index image.words w ≡ 0

@@ -1,10 +1,12 @@
 ghost use Rattle.std.specs.Prelude.{◌≡◌, ℕ, ◌+◌, ◌*◌, ◌<◌, ◌≤◌, ◌↔◌, length, false, List, IsTrue};
 ghost use Rattle.slab_model.specs.declared.runs.Run.{Run};
 ghost use Rattle.slab_model.specs.Runs.{is_covered, is_within};
+ghost use Rattle.slab_pages.specs.Places.{page_limit, descriptor_word};
 ghost use Rattle.slab_pages.specs.Layout.{IsBusy, CanComeBack};
 ghost use Rattle.slab_pages.specs.Steps.{IsClearOfFree, LaysList};
 
-use crate::descriptors::{FREE_HEAD, next, offset_of, page_of, prev, slab};
+use crate::descriptors::{next, offset_of, page_of, prev, slab};
+use crate::places::FREE_HEAD;
 use zone_region::Region;
 
 // The page is one of the `pages` pages from `first` on.
@@ -35,8 +37,8 @@ pub(crate) fn is_free(region: &Region, page: u64) -> bool
 
 // The page's descriptor is that of a page that isn't free.
 fn is_busy(region: &Region, page: u64) -> bool
-    requires small { page < 16384 }
-    requires room { 88 + 3 * page + 2 < length region.now }
+    requires small { page < page_limit }
+    requires room { descriptor_word page + 2 < length region.now }
     ensures { IsTrue result ↔ IsBusy region.now page }
 {
     let o = offset_of(page);
@@ -45,7 +47,7 @@ fn is_busy(region: &Region, page: u64) -> bool
 
 // None of the `n` pages from `first` on is free.
 pub(crate) fn is_apart(region: &Region, first: u64, n: u64) -> bool
-    requires small { first + n ≤ 16384 }
+    requires small { first + n ≤ page_limit }
     requires laid { ((count : ℕ) × (runs : List Run) × LaysList count region.now runs) }
     ensures { (count : ℕ) (runs : List Run) → LaysList count region.now runs →
         (IsTrue result ↔ IsClearOfFree runs first (first + n)) }

@@ -9,7 +9,8 @@ ghost use Rattle.slab_pages.specs.SlabLayout.{IsOpened};
 use crate::checks::can_come_back;
 use crate::geometry::Geometry;
 use crate::opening::prepare;
-use crate::runs::{PFREE, add_run, find_fit, give_pages, take_pages};
+use crate::places::PFREE_WORD;
+use crate::runs::{add_run, find_fit, give_pages, take_pages};
 use std::alloc::Global;
 use std::marker::Model;
 use zone_outside::NoMemory;
@@ -56,7 +57,7 @@ impl Pages {
         let mut region = Region::zeroed(alloc, g.bytes / 8)?;
         prepare(&mut region, &g);
         add_run(&mut region, 0, g.pages);
-        region.store(PFREE, g.pages);
+        region.store(PFREE_WORD, g.pages);
         Ok(Pages {
             region,
             geometry: g,
@@ -76,7 +77,7 @@ impl Pages {
         ensures only { (xs ys : List Run) → LaysRuns self.now xs → LaysRuns self.now ys → xs ≡ ys }
         ensures count { (runs : List Run) → LaysRuns self.now runs → result ≡ page_total runs }
     {
-        self.region.load(PFREE)
+        self.region.load(PFREE_WORD)
     }
 
     /// The number of the zone's words.
