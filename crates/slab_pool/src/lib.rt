@@ -7,6 +7,7 @@ mod grants;
 mod lists;
 mod places;
 pub mod pool;
+mod probe;
 mod returns;
 mod stats;
 

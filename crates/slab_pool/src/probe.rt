@@ -1,0 +1,7 @@
+ghost use Rattle.std.specs.Prelude.{◌≡◌};
+
+fn probe() -> u64
+    ensures { result ≡ 1 }
+{
+    1
+}
