@@ -5,7 +5,8 @@ use Rattle.slab_model.specs.declared.runs.Run.{Run}
 use Rattle.slab_model.specs.Runs.{AreApart, IsApart, AreSound, is_covered}
 use Rattle.slab_pages.specs.Places.{free_head, pfree_word, descriptor, next_at, prev_at, IsPlace, Links, KeepsOthers, is_run_word, descriptor_word, descriptor_page, free_word}
 use Rattle.slab_pages.specs.Layout.{LaysFrom}
-use Rattle.slab_pages.specs.Steps.{SameWords, LaysList, IsBlank, BeginsRun, IsCleared, Relists}
+use Rattle.slab_pages.specs.Frames.{SameWords}
+use Rattle.slab_pages.specs.Steps.{LaysList, IsBlank, BeginsRun, IsCleared, Relists}
 use Rattle.slab_pages.proofs.PlaceLemmas.{descriptor-word, descriptor-head, descriptor-injective, descriptor-other, SameWords-then, Links-slab, Links-next, Links-prev, Links-prev_head}
 use Rattle.slab_pages.proofs.ListLemmas.{HasTail-kept, LaysFrom-kept, covered-first, covered-rest, covers-apart}
 use Rattle.slab_pages.proofs.UnlinkLemmas.{beyond_run, IsNode, node_place, links_free, links_kept, kept_then}

@@ -11,9 +11,8 @@ use Rattle.slab_model.specs.Runs.{is_covered}
 use Rattle.slab_model.specs.Slab.{Slab, IsSound, page_at, list_of, is_full, is_free, has_room}
 use Rattle.slab_model.proofs.StateLemmas.{has_room-own}
 use Rattle.slab_pages.specs.Places.{descriptor, prev_at, class_head}
-use Rattle.slab_pages.specs.Layout.{LaysRuns, IsBusy, CanComeBack}
+use Rattle.slab_pages.specs.Layout.{IsBusy, CanComeBack, MayPut}
 use Rattle.slab_pages.specs.SlabLayout.{LaysSlab, LaysPages, type_of}
-use Rattle.slab_pages.proofs.PagesLemmas.{runs-unique}
 
 -- descriptors begin at multiples of 8, so the low bits of a link are free for the type
 eight : (page : ℕ) → descriptor page % 8 ≡ 0
@@ -82,14 +81,19 @@ page-back words slab page class indexes s l is below = record {
   after = λ low free. busy words slab (page + 1) s l low free;
 }
 
--- what `Pages::put` asks of a used run, whatever list the words are read as
-pub run-asked : (words : List ℕ) (slab : Slab) (page n : ℕ) → IsSound slab → LaysSlab words slab → page_at slab.pages page ≡ First n → (runs : List Run) → LaysRuns (record { bytes = slab.bytes; words = words }) runs → CanComeBack (pages_of slab.bytes) words runs (record { first = page; pages = n })
-run-asked words slab page n s l is runs laid =
-    subst (λ (rs : List Run). CanComeBack (pages_of slab.bytes) words rs (record { first = page; pages = n }))
-    (runs-unique (record { bytes = slab.bytes; words = words }) slab.runs runs l.runs laid) (run-back words slab page n s l is)
+-- so each of them meets what `Pages::put` asks
+pub run-may_put : (words : List ℕ) (slab : Slab) (page n : ℕ) → IsSound slab → LaysSlab words slab → page_at slab.pages page ≡ First n → MayPut (record { bytes = slab.bytes; words = words }) (record { first = page; pages = n })
+run-may_put words slab page n s l is = (slab.runs, l.runs, run-back words slab page n s l is)
 
--- and of the page of a class
-pub page-asked : (words : List ℕ) (slab : Slab) (page class : ℕ) (indexes : List ℕ) → IsSound slab → LaysSlab words slab → page_at slab.pages page ≡ Class class indexes → page < pages_of slab.bytes → (runs : List Run) → LaysRuns (record { bytes = slab.bytes; words = words }) runs → CanComeBack (pages_of slab.bytes) words runs (record { first = page; pages = 1 })
-page-asked words slab page class indexes s l is below runs laid =
-    subst (λ (rs : List Run). CanComeBack (pages_of slab.bytes) words rs (record { first = page; pages = 1 }))
-    (runs-unique (record { bytes = slab.bytes; words = words }) slab.runs runs l.runs laid) (page-back words slab page class indexes s l is below)
+pub page-may_put : (words : List ℕ) (slab : Slab) (page class : ℕ) (indexes : List ℕ) → IsSound slab → LaysSlab words slab → page_at slab.pages page ≡ Class class indexes → page < pages_of slab.bytes → MayPut (record { bytes = slab.bytes; words = words }) (record { first = page; pages = 1 })
+page-may_put words slab page class indexes s l is below = (slab.runs, l.runs, page-back words slab page class indexes s l is below)
+
+-- and still does where other words change, as long as pages that aren't free keep the descriptor of one
+pub come_back-kept : (count : ℕ) (old new : List ℕ) (runs : List Run) (run : Run) → ((page : ℕ) → page < count → is_covered page runs ≡ false → IsBusy old page → IsBusy new page) → CanComeBack count old runs run → CanComeBack count new runs run
+come_back-kept count old new runs run same h = record {
+  some = h.some;
+  within = h.within;
+  used = h.used;
+  before = λ page e free. same page (omega (arith, e, h.within, h.some)) free (h.before page e free);
+  after = λ low free. same (run.first + run.pages) low free (h.after low free);
+}

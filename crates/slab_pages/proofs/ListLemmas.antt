@@ -7,7 +7,8 @@ use Rattle.slab_model.specs.Runs.{AreApart, IsApart, AreSound, is_covered, pages
 use Rattle.slab_pages.specs.Places.{free_head, descriptor, slab_at, next_at, prev_at, IsPlace}
 use Rattle.slab_pages.specs.Layout.{HasTail, LaysFrom}
 use Rattle.slab_pages.proofs.PlaceLemmas.{descriptor-head, descriptor-injective, HasWords-kept}
-use Rattle.slab_pages.specs.Steps.{SameWords, change}
+use Rattle.slab_pages.specs.Frames.{SameWords}
+use Rattle.slab_pages.specs.Steps.{change}
 
 -- ---- pages and runs
 

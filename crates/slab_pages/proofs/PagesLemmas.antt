@@ -6,7 +6,7 @@ use Rattle.slab_model.specs.Geometry.{pages_of, most_pages, start_of, least_zone
 use Rattle.slab_model.specs.Runs.{page_total, take_run, give_run}
 use Rattle.slab_model.proofs.RunLemmas.{page_total-give}
 use Rattle.slab_pages.specs.Places.{Image, free_head, pfree_word, descriptor, slab_at, is_list_word, is_run_word, page_limit, descriptor_word, free_word}
-use Rattle.slab_pages.specs.Layout.{LaysFrom, LaysRuns}
+use Rattle.slab_pages.specs.Layout.{LaysFrom, LaysRuns, MaySet, MayPut, CanComeBack}
 use Rattle.slab_pages.specs.Steps.{LaysList, TakesRun, GivesRun}
 use Rattle.slab_pages.proofs.PlaceLemmas.{descriptor-head, descriptor-injective}
 use Rattle.slab_pages.proofs.WriteLemmas.{get-written, length-written}
@@ -46,10 +46,19 @@ from-unique words o (x ∷ xs) (y ∷ ys) h k =
 pub runs-unique : (image : Image) (xs ys : List Run) → LaysRuns image xs → LaysRuns image ys → xs ≡ ys
 runs-unique image xs ys h k = from-unique image.words free_head xs ys h.linked k.linked
 
--- a word that the free runs aren't kept in
-pub set_other : (bytes : ℕ) (words new : List ℕ) (runs : List Run) (w v : ℕ) → least_zone ≤ bytes → bytes ≤ greatest_zone → LaysRuns (record { bytes = bytes; words = words }) runs → is_list_word w ≡ false → is_run_word runs w ≡ false → new ≡ set words w v → LaysRuns (record { bytes = bytes; words = new }) runs
-set_other bytes words new runs w v low high h list run is =
+-- one list of which this is known is every list
+pub run_word-any : (image : Image) (runs : List Run) (w : ℕ) → LaysRuns image runs → MaySet image w → is_run_word runs w ≡ false
+run_word-any image runs w h may = subst (λ (rs : List Run). is_run_word rs w ≡ false) (runs-unique image may.not_free.0 runs may.not_free.1 h) may.not_free.2
+
+pub come_back-any : (image : Image) (runs : List Run) (run : Run) → LaysRuns image runs → MayPut image run → CanComeBack (pages_of image.bytes) image.words runs run
+come_back-any image runs run h may = subst (λ (rs : List Run). CanComeBack (pages_of image.bytes) image.words rs run) (runs-unique image may.0 runs may.1 h) may.2
+
+-- a word that no free run is kept in
+pub set_other : (bytes : ℕ) (words new : List ℕ) (runs : List Run) (w v : ℕ) → least_zone ≤ bytes → bytes ≤ greatest_zone → LaysRuns (record { bytes = bytes; words = words }) runs → MaySet (record { bytes = bytes; words = words }) w → new ≡ set words w v → LaysRuns (record { bytes = bytes; words = new }) runs
+set_other bytes words new runs w v low high h may is =
     let image : Image = record { bytes = bytes; words = words } in
+    let list = may.not_listed in
+    let run = run_word-any image runs w h may in
     let not = others w list in
     list-runs bytes new runs (length-written words new w v is ∙ h.sized)
     (LaysList-kept (pages_of bytes) words new runs (length-written words new w v is)

@@ -6,7 +6,8 @@ use Rattle.slab_model.specs.declared.runs.Run.{Run}
 use Rattle.slab_model.specs.Runs.{IsApart, AreSound, is_covered, pages_from}
 use Rattle.slab_pages.specs.Places.{free_head, pfree_word, descriptor, slab_at, next_at, prev_at, HasWords, IsPlace, Links, KeepsOthers, is_list_word, is_run_word, descriptor_word, descriptor_page, free_word}
 use Rattle.slab_pages.specs.Layout.{HasTail, LaysFrom}
-use Rattle.slab_pages.specs.Steps.{SameWords, SetsWords, LaysList, Unlinks, Detaches, without_run}
+use Rattle.slab_pages.specs.Frames.{SameWords}
+use Rattle.slab_pages.specs.Steps.{SetsWords, LaysList, Unlinks, Detaches, without_run}
 use Rattle.slab_pages.proofs.PlaceLemmas.{descriptor-word, descriptor-head, descriptor-injective, descriptor-other, HasWords-kept, SameWords-then, SetsWords-other, Links-slab, Links-next, Links-prev, Links-prev_head}
 use Rattle.slab_pages.proofs.ListLemmas.{pages_from-here, pages_from-there, pages_from-covers, pages_from-beyond, pages_from-inside, LaysFrom-kept, covered-rest, covers-apart, Near, prev_in, next_in, relink, relaid}
 

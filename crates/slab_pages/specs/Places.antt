@@ -1,7 +1,7 @@
 -- Where the words of a zone stand, by the names of `ngx_slab_pool_t`, `ngx_slab_stat_t` and `ngx_slab_page_t`. A place is the number of a word; links hold byte offsets.
 use Rattle.std.specs.Prelude.{ℕ, ◌≡◌, ◌≢◌, ◌⊎◌, length, ◌+◌, ◌*◌, ◌-◌, ◌/◌, Bool, false, ◌&&◌, ◌||◌, nat_le, nat_eq, List, slice_index}
 use Rattle.slab_model.specs.declared.runs.Run.{Run}
-use Rattle.slab_model.specs.Geometry.{class_count, greatest_zone, page_size}
+use Rattle.slab_model.specs.Geometry.{blocks_in_page, class_count, greatest_zone, page_offset, page_size}
 use Rattle.slab_model.specs.Runs.{is_covered}
 
 -- a zone: its bytes, and its words
@@ -103,6 +103,14 @@ descriptor_word page = stat_word class_count + 3 * page
 -- the page whose descriptor has this word
 abbrev pub descriptor_page : ℕ → ℕ
 descriptor_page w = (w - descriptor_word 0) / 3
+
+-- the first word of a page
+abbrev pub page_word : ℕ → ℕ → ℕ
+page_word bytes page = page_offset bytes page / 8
+
+-- the words of the bits of a small class's page, one bit for each of its blocks
+abbrev pub bitmap_words : ℕ → ℕ
+bitmap_words class = (blocks_in_page class + 63) / 64
 
 -- ---- what links hold
 

@@ -5,7 +5,7 @@ use Rattle.slab_model.specs.declared.page.PageState.TheVariants.{First, Class}
 use Rattle.slab_model.specs.Geometry.{pages_of, start_of, page_offset, class_count, blocks_in_page, first_index, kind_of, Kind, small, exact, big}
 use Rattle.slab_model.specs.Numbers.{is_member}
 use Rattle.slab_model.specs.Slab.{Slab, page_at, list_of, stat_of, is_full, opened}
-use Rattle.slab_pages.specs.Places.{Image, byte_of, lock_word, wait_word, min_size_word, min_shift_word, pages_word, last_word, stats_word, start_word, end_word, mutex_word, log_ctx_word, zero_word, log_nomem_word, data_word, addr_word, stat_word, descriptor_word, class_head, descriptor, slab_at, next_at, prev_at}
+use Rattle.slab_pages.specs.Places.{Image, byte_of, lock_word, wait_word, min_size_word, min_shift_word, pages_word, last_word, stats_word, start_word, end_word, mutex_word, log_ctx_word, zero_word, log_nomem_word, data_word, addr_word, stat_word, descriptor_word, class_head, page_word, descriptor, slab_at, next_at, prev_at}
 use Rattle.slab_pages.specs.Layout.{LaysRuns, HasUsedRun}
 
 -- the pool header, but for the words of the page list, `log_ctx` and `data`
@@ -50,7 +50,7 @@ pub record LaysClass (words : List ℕ) (class : ℕ) (pages : List ℕ) : Type 
 
 -- the word of a small class's page that has the bit of this block
 abbrev pub bits_at : List ℕ → ℕ → ℕ → ℕ → ℕ
-bits_at words bytes page index = slice_index words (page_offset bytes page / 8 + index / 64)
+bits_at words bytes page index = slice_index words (page_word bytes page + index / 64)
 
 -- a small class's page: its bits stand in its first words, and those of its own blocks are set
 pub record LaysSmallBits (words : List ℕ) (bytes page class : ℕ) (used : List ℕ) : Type 0 where

@@ -3,6 +3,7 @@ use Rattle.std.specs.Prelude.{ℕ, ◌≡◌, ◌⊎◌, ◌+◌, ◌-◌, ◌/�
 use Rattle.slab_model.specs.declared.runs.Run.{Run}
 use Rattle.slab_model.specs.Runs.{IsApart, AreSound, is_covered, pages_from, pages_before, take_run, give_run}
 use Rattle.slab_pages.specs.Places.{free_head, pfree_word, descriptor, slab_at, next_at, prev_at, HasWords, KeepsOthers, page_limit, descriptor_word}
+use Rattle.slab_pages.specs.Frames.{SameWords}
 use Rattle.slab_pages.specs.Layout.{HasTail, LaysFrom, IsBusy, HasUsedRun}
 
 -- the words lay out this list of free runs of a zone of so many pages; the count of free pages aside
@@ -13,12 +14,6 @@ pub record LaysList (count : ℕ) (words : List ℕ) (runs : List Run) : Type 0 
   pub slab_is : slab_at words free_head ≡ 0
   pub prev_is : prev_at words free_head ≡ 0
   pub linked : LaysFrom words free_head runs
-
--- the three words of a descriptor are as before
-pub record SameWords (old new : List ℕ) (o : ℕ) : Type 0 where
-  pub slab : slab_at new o ≡ slab_at old o
-  pub next : next_at new o ≡ next_at old o
-  pub prev : prev_at new o ≡ prev_at old o
 
 -- the descriptor at `o` has these words, and nothing else changed
 pub record SetsWords (old new : List ℕ) (o slab next prev : ℕ) : Type 0 where

@@ -1,9 +1,8 @@
-ghost use Rattle.std.specs.Prelude.{◌≡◌, ◌+◌, ◌<◌, ◌/◌, length, false, List, Some, None, MatchOption, IfSome, IfNone, IfOk, IsTrue, slice_index, slice_set};
+ghost use Rattle.std.specs.Prelude.{◌≡◌, ◌+◌, ◌<◌, ◌/◌, length, false, List, Some, None, MatchOption, IfSome, IfNone, IfOk, IsTrue, ◌↔◌, slice_index, slice_set};
 ghost use Rattle.slab_model.specs.declared.runs.Run.{Run};
-ghost use Rattle.slab_model.specs.Geometry.{pages_of};
 ghost use Rattle.slab_model.specs.Runs.{first_fit, give_run, page_total, take_run};
-ghost use Rattle.slab_pages.specs.Places.{Image, KeepsOthers, is_list_word, is_run_word};
-ghost use Rattle.slab_pages.specs.Layout.{HasUsedRun, CanComeBack, LaysRuns};
+ghost use Rattle.slab_pages.specs.Places.{Image, KeepsOthers};
+ghost use Rattle.slab_pages.specs.Layout.{HasUsedRun, LaysRuns, MayPut, MaySet};
 ghost use Rattle.slab_pages.specs.SlabLayout.{IsOpened};
 
 use crate::checks::can_come_back;
@@ -97,9 +96,7 @@ impl Pages {
 
     /// Makes word `w` be `v`, and leaves every other word. It may not be one that the free runs are kept in.
     pub fn set_word(&mut self, w: u64, v: u64)
-        requires within { w < length self.old.words }
-        requires not_listed { is_list_word w ≡ false }
-        requires not_free { (runs : List Run) → LaysRuns self.old runs → is_run_word runs w ≡ false }
+        requires { MaySet self.old w }
         ensures set { self.new ≡ record { bytes = self.old.bytes; words = slice_set self.old.words w v } }
         ensures laid { (runs : List Run) → LaysRuns self.old runs → LaysRuns self.new runs }
     {
@@ -134,13 +131,7 @@ impl Pages {
     ///
     /// It walks the list of free runs for each page.
     pub fn can_put(&self, p: Page, n: u64) -> bool
-        ensures laid { ((runs : List Run) × LaysRuns self.now runs) }
-        ensures yes { let run : Run = record { first = p.number; pages = n } in
-            IsTrue result →
-            (runs : List Run) → LaysRuns self.now runs → CanComeBack (pages_of self.now.bytes) self.now.words runs run }
-        ensures whenever { let run : Run = record { first = p.number; pages = n } in
-            (runs : List Run) → LaysRuns self.now runs → CanComeBack (pages_of self.now.bytes) self.now.words runs run →
-            IsTrue result }
+        ensures { IsTrue result ↔ MayPut self.now (record { first = p.number; pages = n }) }
     {
         let pages = self.geometry.pages;
         if n == 0 || p.number >= pages || n > pages - p.number {
@@ -158,8 +149,7 @@ impl Pages {
     ///
     /// It reads the descriptors next to the pages and doesn't walk the list, so its time doesn't grow with it.
     pub fn put(&mut self, p: Page, n: u64)
-        requires { let run : Run = record { first = p.number; pages = n } in
-            (runs : List Run) → LaysRuns self.old runs → CanComeBack (pages_of self.old.bytes) self.old.words runs run }
+        requires { MayPut self.old (record { first = p.number; pages = n }) }
         ensures laid { let run : Run = record { first = p.number; pages = n } in
             (runs : List Run) → LaysRuns self.old runs → LaysRuns self.new (give_run run runs) }
         ensures kept { let run : Run = record { first = p.number; pages = n } in
