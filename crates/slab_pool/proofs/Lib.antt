@@ -1,2 +1,4 @@
 pub mod WordLemmas
 pub mod LinkLemmas
+pub mod KindLemmas
+pub mod BitLemmas
