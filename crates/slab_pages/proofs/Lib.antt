@@ -13,3 +13,4 @@ pub mod OpeningLemmas
 pub mod ComeBackLemmas
 pub mod SetLemmas
 pub mod FrameLemmas
+pub mod TakeLemmas
