@@ -3,3 +3,5 @@ pub mod LinkLemmas
 pub mod KindLemmas
 pub mod BitLemmas
 pub mod DecodeLemmas
+pub mod BlockWords
+pub mod RestLemmas
