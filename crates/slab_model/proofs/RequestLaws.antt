@@ -9,7 +9,11 @@ use Rattle.slab_model.specs.declared.stat.Stat.{Stat}
 use Rattle.slab_model.specs.Geometry.{usable_blocks, class_size}
 use Rattle.slab_model.specs.Numbers.{without}
 use Rattle.slab_model.specs.Runs.{first_fit}
-use Rattle.slab_model.specs.Slab.{Slab, no_stat, list_of, stat_of, page_at, used_in, page_number, place_in_page, count_grant, count_fail, count_return, grant, grant_as, grant_from_list, grant_in_page, grant_in_new_page, give_back, give_from, give_in_page}
+use Rattle.slab_model.specs.State.{Slab, no_stat, list_of, stat_of, page_at}
+use Rattle.slab_model.specs.Blocks.{used_in, page_number, place_in_page}
+use Rattle.slab_model.specs.Counting.{count_grant, count_fail, count_return}
+use Rattle.slab_model.specs.Grant.{grant, grant_as, grant_from_list, grant_in_page, grant_in_new_page}
+use Rattle.slab_model.specs.Return.{give_back, give_from, give_in_page}
 use Rattle.slab_model.specs.Laws.{CountsRequest, RequestsLaw, ReturnCountsLaw}
 use Rattle.slab_model.proofs.ClassLemmas.{class_of-some}
 
@@ -36,12 +40,12 @@ from_list slab class low (page ∷ rest) = counts_given slab (grant_in_page slab
 from_list slab class low [] = new_page (first_fit 1 slab.runs) where
   new_page : (fit : Option ℕ) → CountsRequest slab (grant_in_new_page slab class fit).1 class (is_some (grant_in_new_page slab class fit).0)
   new_page None = counts_failed slab (grant_in_new_page slab class None).1 class refl low
-  new_page (Some page) = counts_given slab (grant_in_new_page slab class (Some page)).1 class (usable_blocks class) refl low
+  new_page (Some page) = counts_given slab (grant_in_new_page slab class (Some page)).1 class (usable_blocks slab.shape class) refl low
 
 pub requests-law : RequestsLaw
 unfolding grant
 requests-law slab size class s is =
-    let known = class_of-some size class is in
+    let known = class_of-some slab.shape size class is in
     let low : class < length slab.stats = omega (arith, s.stat_count, known.0) in
     subst (λ (c : Option ℕ). CountsRequest slab (grant_as slab size c).1 class (is_some (grant_as slab size c).0)) (sym is) (from_list slab class low (list_of slab class))
 
@@ -66,7 +70,7 @@ counts_kept slab own less class = elim (cases_eq class own) [
       (ap (λ (t : Stat). t.reqs) (h ∙ sym was), ap (λ (t : Stat). t.fails) (h ∙ sym was))
 
 in_page_kept : (slab : Slab) (page own class : ℕ) (used left : List ℕ) → SameCounts (stat_of slab class) (stat_of (give_in_page slab page own used left) class)
-in_page_kept slab page own class used [] = counts_kept slab own (usable_blocks own) class
+in_page_kept slab page own class used [] = counts_kept slab own (usable_blocks slab.shape own) class
 in_page_kept slab page own class used (l ∷ ls) = counts_kept slab own 0 class
 
 from_kept : (slab : Slab) (page place class : ℕ) (state : PageState) → SameCounts (stat_of slab class) (stat_of (give_from slab page place state) class)
@@ -78,4 +82,4 @@ from_kept slab page place class (Class own used) = in_page_kept slab page own cl
 
 pub return_counts-law : ReturnCountsLaw
 unfolding give_back SameCounts
-return_counts-law slab at class = from_kept slab (page_number slab.bytes at) (place_in_page slab.bytes at) class (page_at slab.pages (page_number slab.bytes at))
+return_counts-law slab at class = from_kept slab (page_number slab.shape at) (place_in_page slab.shape at) class (page_at slab.pages (page_number slab.shape at))

@@ -1,9 +1,9 @@
-ghost use Rattle.slab_model.specs.Laws.{OpenedLaw, GrantSoundLaw, ReturnSoundLaw, GrantLaw, NoGrantLaw, ReturnLaw, BlocksLaw, LowestLaw, PagesLaw, RoundTripLaw, FitsLaw, RequestsLaw, ReturnCountsLaw};
+ghost use Rattle.slab_model.specs.Laws.{FreshLaw, GrantSoundLaw, ReturnSoundLaw, GrantLaw, NoGrantLaw, ReturnLaw, BlocksLaw, LowestLaw, PagesLaw, RoundTripLaw, FitsLaw, RequestsLaw, ReturnCountsLaw};
 ghost use Rattle.slab_model.specs.Rows.{ZonesRow, NodesRow, SmallRow, LargeRow, RunsRow, MergeRow};
 
 /// What holds of every slab, as theorems over the definitions. Nothing runs.
 pub fn laws()
-    ensures opened { OpenedLaw }
+    ensures fresh { FreshLaw }
     ensures grant_sound { GrantSoundLaw }
     ensures return_sound { ReturnSoundLaw }
     ensures grants { GrantLaw }

@@ -1,18 +1,18 @@
 -- Each part of a slab's layout stays where the words change that it doesn't speak of.
-use Rattle.std.proofs.Common.{ℕ, ◌≡◌, ◌≢◌, ◌⊎◌, ◌+◌, ◌*◌, ◌/◌, ◌%◌, ◌<◌, ◌≤◌, ◌^◌, true, false, List, [], ◌∷◌, length, get_or, refl, sym, ap, subst, arith, inl, inr, ◌∙◌}
+use Rattle.std.proofs.Common.{ℕ, ◌≡◌, ◌≢◌, ◌⊎◌, ◌+◌, ◌/◌, ◌%◌, ◌<◌, ◌≤◌, ◌^◌, true, false, List, [], ◌∷◌, length, get_or, refl, sym, ap, subst, arith, inl, inr, ◌∙◌}
 use Rattle.std.specs.Prelude.{IsBitSet}
 use Rattle.std.proofs.lemmas.Bool.{cases_lt}
 use Rattle.std.proofs.lemmas.Grind.{common_steps}
 use Rattle.slab_model.specs.declared.runs.Run.{Run}
 use Rattle.slab_model.specs.declared.stat.Stat.{Stat}
 use Rattle.slab_model.specs.declared.page.PageState.TheVariants.{Free, Class}
-use Rattle.slab_model.specs.Geometry.{Kind, small, exact, big, kind_of, pages_of, least_zone, greatest_zone, blocks_in_page, class_count}
+use Rattle.slab_model.specs.Geometry.{Kind, small, exact, big, kind_of, pages_of, least_zone, greatest_zone, class_count}
 use Rattle.slab_model.specs.Numbers.{is_member}
 use Rattle.slab_model.specs.Runs.{is_covered}
 use Rattle.slab_model.specs.Slab.{Slab, IsSound, list_of, stat_of, page_at, has_room}
 use Rattle.slab_model.proofs.ClassLemmas.{zone}
 use Rattle.slab_model.proofs.StateLemmas.{page_at-in}
-use Rattle.slab_pages.specs.Places.{Image, free_word, pfree_word, free_head, log_ctx_word, data_word, addr_word, head_word, stat_word, descriptor_word, class_head, page_word, bitmap_words, descriptor, slab_at, next_at, is_list_word}
+use Rattle.slab_pages.specs.Places.{free_word, pfree_word, free_head, log_ctx_word, data_word, addr_word, head_word, stat_word, descriptor_word, class_head, page_word, bitmap_words, descriptor, slab_at, next_at, is_list_word}
 use Rattle.slab_pages.specs.Layout.{LaysRuns, HasUsedRun}
 use Rattle.slab_pages.specs.SlabLayout.{LaysHeader, LaysStat, LaysPages, LaysClass, LaysBits, LaysClassPage, LaysSlab}
 use Rattle.slab_pages.specs.Frames.{SameFrom, SameWords, SameLinks, ChangesFrom, ChangesDescriptor, SameLaid}

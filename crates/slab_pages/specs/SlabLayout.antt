@@ -2,7 +2,7 @@
 use Rattle.std.specs.Prelude.{ℕ, ◌≡◌, ◌⊎◌, ◌+◌, ◌/◌, ◌%◌, ◌^◌, ◌<◌, ◌≤◌, ◌↔◌, true, List, [], ◌∷◌, slice_index, IsBitSet}
 use Rattle.slab_model.specs.declared.stat.Stat.{Stat}
 use Rattle.slab_model.specs.declared.page.PageState.TheVariants.{First, Class}
-use Rattle.slab_model.specs.Geometry.{pages_of, start_of, page_offset, class_count, blocks_in_page, first_index, kind_of, Kind, small, exact, big}
+use Rattle.slab_model.specs.Geometry.{pages_of, start_of, class_count, blocks_in_page, first_index, kind_of, Kind, small, exact, big}
 use Rattle.slab_model.specs.Numbers.{is_member}
 use Rattle.slab_model.specs.Slab.{Slab, page_at, list_of, stat_of, is_full, opened}
 use Rattle.slab_pages.specs.Places.{Image, byte_of, lock_word, wait_word, min_size_word, min_shift_word, pages_word, last_word, stats_word, start_word, end_word, mutex_word, log_ctx_word, zero_word, log_nomem_word, data_word, addr_word, stat_word, descriptor_word, class_head, page_word, descriptor, slab_at, next_at, prev_at}

@@ -2,12 +2,14 @@ ghost use Rattle.std.specs.Prelude.{◌≡◌, ◌<◌, ◌≤◌, ◌↔◌, Is
 ghost use Rattle.slab_model.specs.Geometry.{pages_of, start_of, least_zone, greatest_zone};
 
 use slab_model::geometry::{page_count, start_offset};
+use thiserror::Error;
 
 /// The least bytes of a zone: eight pages.
 pub const LEAST_ZONE: u64 = 32_768;
 
 /// A zone of fewer bytes than eight pages is refused.
-#[derive(Clone, Copy, Debug, PartialEq, Eq)]
+#[derive(Clone, Copy, Debug, PartialEq, Eq, Error)]
+#[error("the zone is smaller than 8 pages")]
 pub struct TooSmall;
 
 /// How a zone is cut into its header, its descriptors and its pages.

@@ -6,8 +6,8 @@ ghost use Rattle.slab_pages.specs.Opening.{IsPrepared, WritesHeads, all_below, p
 use crate::descriptors::offset_of;
 use crate::geometry::Geometry;
 use crate::places::{
-    END_WORD, FREE_HEAD, FREE_WORD, LAST_WORD, MIN_SHIFT_WORD, MIN_SIZE_WORD, PAGES_WORD, START_WORD, STATS_WORD,
-    byte_offset, head_at, stat_at,
+    END_WORD, FREE_HEAD, FREE_WORD, LAST_WORD, MIN_SHIFT_WORD, MIN_SIZE_WORD, PAGES_WORD,
+    START_WORD, STATS_WORD, byte_offset, head_at, stat_at,
 };
 use slab_model::geometry::CLASS_COUNT;
 use zone_region::Region;

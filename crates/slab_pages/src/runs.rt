@@ -5,9 +5,7 @@ ghost use Rattle.slab_pages.specs.Places.{page_limit, descriptor_word, descripto
 ghost use Rattle.slab_pages.specs.Layout.{CanComeBack};
 ghost use Rattle.slab_pages.specs.Steps.{Detaches, GivesRun, IsAfter, IsBefore, IsCleared, LaysList, MarksUsed, Relists, TakesRun, Unlinks, start_at};
 
-use crate::descriptors::{
-    begin_run, fill, link, next, offset_of, page_of, prev, set_words, slab,
-};
+use crate::descriptors::{begin_run, fill, link, next, offset_of, page_of, prev, set_words, slab};
 use crate::places::{FREE_HEAD, PFREE_WORD};
 use zone_region::Region;
 

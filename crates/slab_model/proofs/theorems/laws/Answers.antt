@@ -1,5 +1,5 @@
 use Rattle.slab_model.proofs.Laws.{grant-sound, give_back-sound, fits-grant}
-use Rattle.slab_model.proofs.BlockLaws.{opened-law, grant-grants, grant-none, give_back-returns, blocks-law}
+use Rattle.slab_model.proofs.BlockLaws.{fresh-law, grant-grants, grant-none, give_back-returns, blocks-law}
 use Rattle.slab_model.proofs.StateLemmas.{lowest-law}
 use Rattle.slab_model.proofs.CountLaws.{pages-law, round_trip-law}
 use Rattle.slab_model.proofs.RequestLaws.{requests-law, return_counts-law}
@@ -7,7 +7,7 @@ use Rattle.slab_model.proofs.theorems.laws.Goals as goal
 
 pub returns : goal.returns
 returns c = record {
-  opened = opened-law;
+  fresh = fresh-law;
   grant_sound = grant-sound;
   return_sound = give_back-sound;
   grants = grant-grants;

@@ -1,8 +1,7 @@
 use Rattle.std.proofs.Common.{ℕ, sym, subst}
 use Rattle.slab_model.specs.declared.runs.Run.{Run}
-use Rattle.slab_model.specs.Geometry.{pages_of}
 use Rattle.slab_pages.specs.Places.{Image}
-use Rattle.slab_pages.specs.Layout.{LaysRuns, CanComeBack, MayPut}
+use Rattle.slab_pages.specs.Layout.{CanComeBack, MayPut}
 use Rattle.slab_pages.specs.Steps.{LaysList}
 use Rattle.slab_pages.proofs.PagesLemmas.{runs-list}
 use Rattle.slab_pages.proofs.pages.Pages.can_put.Goals as goal
@@ -17,8 +16,7 @@ returns c =
     let g = c.self.inside.geometry in
     let run : Run = record { first = c.args.p.number; pages = c.args.n } in
     let w = c.self.invariant in
-    let list = subst (λ (count : ℕ). LaysList count c.self.inside.region w.0) (sym g.pages_are) (runs-list _ _ g.large g.small w.1) in
-    (
+    let list = subst (λ (count : ℕ). LaysList count c.self.inside.region w.0) (sym g.pages_are) (runs-list _ _ g.large g.small w.1) in (
       λ yes.
           let used = subst (λ (count : ℕ). CanComeBack count c.self.inside.region w.0 run) g.pages_are ((c.can_come_back.ensures w.0 list).0 yes) in
           subst (λ (image : Image). MayPut image run) c.self.view_is (w.0, w.1, used),

@@ -1,6 +1,5 @@
 use Rattle.std.proofs.Common.{ℕ, sym, subst}
 use Rattle.slab_model.specs.declared.runs.Run.{Run}
-use Rattle.slab_model.specs.Geometry.{pages_of}
 use Rattle.slab_model.specs.Runs.{give_run}
 use Rattle.slab_pages.specs.Places.{Image, KeepsOthers}
 use Rattle.slab_pages.specs.Layout.{LaysRuns, CanComeBack, MayPut}
