@@ -17,7 +17,7 @@ use Rattle.slab_pages.specs.SlabLayout.{type_of}
 use Rattle.slab_pages.proofs.PlaceLemmas.{descriptor-word}
 use Rattle.slab_pages.proofs.FrameLemmas.{class-below, LaysSlab-kept}
 use Rattle.slab_pool.specs.Pool.{LaysPool}
-use Rattle.slab_pool.specs.Blocks.{page_type, class_in, bytes_at, block_words, is_bitmap_word, is_layout_word, layout_words, rest_of, KeepsPages}
+use Rattle.slab_pool.specs.Live.{page_type, class_in, bytes_at, block_words, is_bitmap_word, is_layout_word, layout_words, rest_of, KeepsPages}
 use Rattle.slab_pool.proofs.DecodeLemmas.{class-type, class_in-class}
 use Rattle.slab_pool.proofs.KindLemmas.{numbers}
 use Rattle.slab_pool.proofs.BlockWords.{block_word, block_room, length-block, same-block, live-block, word-block}
@@ -40,13 +40,13 @@ get-layout_all image i = let e : 0 + i ≡ i = omega arith in get-layout image 0
 
 -- it is told by the zone's bytes and the words before the pages
 pub record SameStart (old new : Image) : Type 0 where
-  pub bytes_are : new.bytes ≡ old.bytes
-  pub low : (w : ℕ) → w < descriptor_word (pages_of old.bytes) → get_or new.words w 0 ≡ get_or old.words w 0
+  pub shape_is : new.shape ≡ old.shape
+  pub low : (w : ℕ) → w < descriptor_word (pages_of old.shape) → get_or new.words w 0 ≡ get_or old.words w 0
 
-same-page_type : (old new : Image) (page : ℕ) → SameStart old new → page < pages_of old.bytes → page_type new.words page ≡ page_type old.words page
+same-page_type : (old new : Image) (page : ℕ) → SameStart old new → page < pages_of old.shape → page_type new.words page ≡ page_type old.words page
 same-page_type old new page s low = ap (λ n. n % 4) (s.low (descriptor page / 8 + 2) (omega (arith, low, descriptor-word page)))
 
-same-class_in : (old new : Image) (page : ℕ) → SameStart old new → page < pages_of old.bytes → class_in new.words page ≡ class_in old.words page
+same-class_in : (old new : Image) (page : ℕ) → SameStart old new → page < pages_of old.shape → class_in new.words page ≡ class_in old.words page
 same-class_in old new page s low =
     let type = same-page_type old new page s low in
     let slab = s.low (descriptor page / 8) (omega (arith, low, descriptor-word page)) in
@@ -57,42 +57,42 @@ same-class_in old new page s low =
 pub same-bitmap : (old new : Image) (w : ℕ) → SameStart old new → is_bitmap_word new w ≡ is_bitmap_word old w
 unfolding is_bitmap_word
 same-bitmap old new w s =
-    let bytes = s.bytes_are in
+    let bytes = s.shape_is in
     ap (λ n. leb (start_of n) (8 * w) && (ltb (page_number n (8 * w)) (pages_of n) && (eqb (page_type new.words (page_number n (8 * w))) 3 && ltb (place_in_page n (8 * w) / 8) (bitmap_words (class_in new.words (page_number n (8 * w))))))) bytes
-    ∙ elim (cases_lt (page_number old.bytes (8 * w)) (pages_of old.bytes)) [
-      | inl within ↦ let t = same-page_type old new (page_number old.bytes (8 * w)) s within in let c = same-class_in old new (page_number old.bytes (8 * w)) s within in inside (leb (start_of old.bytes) (8 * w)) (ltb (page_number old.bytes (8 * w)) (pages_of old.bytes)) _ _ (place_in_page old.bytes (8 * w) / 8) _ _ t c
-      | inr past ↦ outside (leb (start_of old.bytes) (8 * w)) (page_number old.bytes (8 * w)) (pages_of old.bytes) _ _ past
+    ∙ elim (cases_lt (page_number old.shape (8 * w)) (pages_of old.shape)) [
+      | inl within ↦ let t = same-page_type old new (page_number old.shape (8 * w)) s within in let c = same-class_in old new (page_number old.shape (8 * w)) s within in inside (leb (start_of old.shape) (8 * w)) (ltb (page_number old.shape (8 * w)) (pages_of old.shape)) _ _ (place_in_page old.shape (8 * w) / 8) _ _ t c
+      | inr past ↦ outside (leb (start_of old.shape) (8 * w)) (page_number old.shape (8 * w)) (pages_of old.shape) _ _ past
     ] where
-      inside : (a b : Bool) (t u place c d : ℕ) → u ≡ t → d ≡ c → (a && (b && (eqb u 3 && ltb place (bitmap_words d)))) ≡ (a && (b && (eqb t 3 && ltb place (bitmap_words c))))
+      inside : (a b : Bool) (t u place c d : ℕ) → u ≡ t → d ≡ c → (a && (b && (eqb u 3 && ltb place (bitmap_words d)))) ≡ (a && (b && (eqb t 3 && ltb place (bitmap_words shape c))))
       inside a b t u place c d e f = cc
 
       outside : (a : Bool) (number count : ℕ) (x y : Bool) → count ≤ number → (a && (ltb number count && x)) ≡ (a && (ltb number count && y))
       outside a number count x y past = grind (arith, common_steps)
 
 same-layout : (old new : Image) (w : ℕ) → SameStart old new → is_layout_word new w ≡ is_layout_word old w
-same-layout old new w s = let b = same-bitmap old new w s in let n = ap (λ k. start_of k) s.bytes_are in both (start_of old.bytes) (start_of new.bytes) (is_bitmap_word old w) (is_bitmap_word new w) n b where
+same-layout old new w s = let b = same-bitmap old new w s in let n = ap (λ k. start_of k) s.shape_is in both (start_of old.shape) (start_of new.shape) (is_bitmap_word old w) (is_bitmap_word new w) n b where
   both : (a b : ℕ) (x y : Bool) → b ≡ a → y ≡ x → (ltb (8 * w) b || y) ≡ (ltb (8 * w) a || x)
   both a b x y e f = cc
 
 -- a word of the bitmap of a small class's page belongs to it
-bitmap-belongs : (image : Image) (slab : Slab) (page class : ℕ) (used : List ℕ) (w : ℕ) → LaysPool image slab → page_at slab.pages page ≡ Class class used → kind_of class ≡ small → page_word slab.bytes page ≤ w → w < page_word slab.bytes page + bitmap_words class → bitmap_words class ≤ 8 → is_layout_word image w ≡ true
+bitmap-belongs : (image : Image) (slab : Slab) (page class : ℕ) (used : List ℕ) (w : ℕ) → LaysPool image slab → page_at slab.pages page ≡ Class class used → kind_of shape class ≡ small → page_word slab.shape page ≤ w → w < page_word slab.shape page + bitmap_words shape class → bitmap_words shape class ≤ 8 → is_layout_word image w ≡ true
 unfolding is_bitmap_word
 bitmap-belongs image slab page class used w p is kind low high few =
-    let z = zone slab.bytes p.sound.large p.sound.small in
-    let offset : page_offset image.bytes page ≡ page_offset slab.bytes page = ap (λ n. page_offset n page) (sym p.bytes_are) in
-    let at : 8 * w ≡ page_offset image.bytes page + (8 * w - page_offset image.bytes page) = omega (arith, offset, z.eights, low) in
-    let fits : 8 * w - page_offset image.bytes page < 4096 = omega (arith, offset, z.eights, low, high, few) in
-    let number : page_number image.bytes (8 * w) ≡ page = ap (λ n. page_number image.bytes n) at ∙ page_number-is image.bytes page (8 * w - page_offset image.bytes page) fits in
-    let place : place_in_page image.bytes (8 * w) ≡ 8 * w - page_offset image.bytes page = ap (λ n. place_in_page image.bytes n) at ∙ place_in_page-is image.bytes page (8 * w - page_offset image.bytes page) fits in
-    let behind : start_of image.bytes ≤ 8 * w = omega (arith, at) in
-    let within : page < pages_of image.bytes = omega (arith, class-below slab page class used p.sound is, ap (λ n. pages_of n) p.bytes_are) in
+    let z = zone slab.shape p.sound.large p.sound.small in
+    let offset : page_offset image.shape page ≡ page_offset slab.shape page = ap (λ n. page_offset n page) (sym p.shape_is) in
+    let at : 8 * w ≡ page_offset image.shape page + (8 * w - page_offset image.shape page) = omega (arith, offset, z.eights, low) in
+    let fits : 8 * w - page_offset image.shape page < 4096 = omega (arith, offset, z.eights, low, high, few) in
+    let number : page_number image.shape (8 * w) ≡ page = ap (λ n. page_number image.shape n) at ∙ page_number-is image.shape page (8 * w - page_offset image.shape page) fits in
+    let place : place_in_page image.shape (8 * w) ≡ 8 * w - page_offset image.shape page = ap (λ n. place_in_page image.shape n) at ∙ place_in_page-is image.shape page (8 * w - page_offset image.shape page) fits in
+    let behind : start_of image.shape ≤ 8 * w = omega (arith, at) in
+    let within : page < pages_of image.shape = omega (arith, class-below slab page class used p.sound is, ap (λ n. pages_of n) p.shape_is) in
     let type : page_type image.words page ≡ 3 = class-type image slab page class used p is ∙ ap type_of kind in
-    let inside : (8 * w - page_offset image.bytes page) / 8 < bitmap_words class = omega (arith, offset, z.eights, low, high) in
-    tests (page_number image.bytes (8 * w)) (place_in_page image.bytes (8 * w)) number place behind within type (class_in-class image slab page class used p is) inside where
-      tests : (number place : ℕ) → number ≡ page → place ≡ 8 * w - page_offset image.bytes page → start_of image.bytes ≤ 8 * w → page < pages_of image.bytes → page_type image.words page ≡ 3 → class_in image.words page ≡ class → (8 * w - page_offset image.bytes page) / 8 < bitmap_words class → (ltb (8 * w) (start_of image.bytes) || (leb (start_of image.bytes) (8 * w) && (ltb number (pages_of image.bytes) && (eqb (page_type image.words number) 3 && ltb (place / 8) (bitmap_words (class_in image.words number)))))) ≡ true
+    let inside : (8 * w - page_offset image.shape page) / 8 < bitmap_words shape class = omega (arith, offset, z.eights, low, high) in
+    tests (page_number image.shape (8 * w)) (place_in_page image.shape (8 * w)) number place behind within type (class_in-class image slab page class used p is) inside where
+      tests : (number place : ℕ) → number ≡ page → place ≡ 8 * w - page_offset image.shape page → start_of image.shape ≤ 8 * w → page < pages_of image.shape → page_type image.words page ≡ 3 → class_in image.words page ≡ class → (8 * w - page_offset image.shape page) / 8 < bitmap_words shape class → (ltb (8 * w) (start_of image.shape) || (leb (start_of image.shape) (8 * w) && (ltb number (pages_of image.shape) && (eqb (page_type image.words number) 3 && ltb (place / 8) (bitmap_words (class_in image.words number)))))) ≡ true
       tests number place e f behind within type class_is inside =
-          subst (λ (n : ℕ). (ltb (8 * w) (start_of image.bytes) || (leb (start_of image.bytes) (8 * w) && (ltb n (pages_of image.bytes) && (eqb (page_type image.words n) 3 && ltb (place / 8) (bitmap_words (class_in image.words n)))))) ≡ true) (sym e)
-          (plain (8 * w) (start_of image.bytes) page (pages_of image.bytes) (page_type image.words page) (place / 8) (bitmap_words (class_in image.words page)) behind within type (omega (arith, inside, ap (λ n. n / 8) f, ap (λ n. bitmap_words n) class_is)))
+          subst (λ (n : ℕ). (ltb (8 * w) (start_of image.shape) || (leb (start_of image.shape) (8 * w) && (ltb n (pages_of image.shape) && (eqb (page_type image.words n) 3 && ltb (place / 8) (bitmap_words (class_in image.words n)))))) ≡ true) (sym e)
+          (plain (8 * w) (start_of image.shape) page (pages_of image.shape) (page_type image.words page) (place / 8) (bitmap_words (class_in image.words page)) behind within type (omega (arith, inside, ap (λ n. n / 8) f, ap (λ n. bitmap_words n) class_is)))
         where
           plain : (at start page count type place few : ℕ) → start ≤ at → page < count → type ≡ 3 → place < few → (ltb at start || (leb start at && (ltb page count && (eqb type 3 && ltb place few)))) ≡ true
           plain at start page count type place few a b c d = grind (arith, common_steps)
@@ -101,22 +101,22 @@ bitmap-belongs image slab page class used w p is kind low high few =
 
 -- the same rest, word by word
 pub record SameRest (old new : Image) : Type 0 where
-  pub bytes_are : new.bytes ≡ old.bytes
+  pub shape_is : new.shape ≡ old.shape
   pub same_length : length new.words ≡ length old.words
   pub words : (w : ℕ) → cond (is_layout_word new w) (get_or new.words w 0) 0 ≡ cond (is_layout_word old w) (get_or old.words w 0) 0
 
 pub same-rest : (old new : Image) → rest_of new ≡ rest_of old → SameRest old new
 unfolding rest_of
 same-rest old new e =
-    let bytes : new.bytes ≡ old.bytes = cc in
+    let bytes : new.shape ≡ old.shape = cc in
     let words : layout_words new 0 new.words ≡ layout_words old 0 old.words = cc in
     record {
-      bytes_are = bytes;
+      shape_is = bytes;
       same_length = sym (length-layout new 0 new.words) ∙ ap length words ∙ length-layout old 0 old.words;
       words = λ w. sym (get-layout_all new w) ∙ ap (λ vs. get_or vs w 0) words ∙ get-layout_all old w;
     }
 
-start-belongs : (image : Image) (w : ℕ) → 8 * w < start_of image.bytes → is_layout_word image w ≡ true
+start-belongs : (image : Image) (w : ℕ) → 8 * w < start_of image.shape → is_layout_word image w ≡ true
 start-belongs image w low = grind (arith, common_steps)
 
 both_belong : (a b : Bool) (v u : ℕ) → a ≡ true → b ≡ true → cond a v 0 ≡ cond b u 0 → v ≡ u
@@ -124,19 +124,19 @@ both_belong a b v u x y e = grind (arith, common_steps)
 
 same-start : (old new : Image) (slab : Slab) → LaysPool old slab → SameRest old new → SameStart old new
 same-start old new slab p r = record {
-  bytes_are = r.bytes_are;
+  shape_is = r.shape_is;
   low = λ w low.
-      let z = zone slab.bytes p.sound.large p.sound.small in
-      let start = ap (λ n. start_of n) p.bytes_are in
-      let count = ap (λ n. pages_of n) p.bytes_are in
-      let before : 8 * w < start_of old.bytes = omega (arith, low, z.behind, start, count) in
-      let after : 8 * w < start_of new.bytes = omega (arith, before, ap (λ n. start_of n) r.bytes_are) in
+      let z = zone slab.shape p.sound.large p.sound.small in
+      let start = ap (λ n. start_of n) p.shape_is in
+      let count = ap (λ n. pages_of n) p.shape_is in
+      let before : 8 * w < start_of old.shape = omega (arith, low, z.behind, start, count) in
+      let after : 8 * w < start_of new.shape = omega (arith, before, ap (λ n. start_of n) r.shape_is) in
       both_belong (is_layout_word new w) (is_layout_word old w) _ _ (start-belongs new w after) (start-belongs old w before) (r.words w);
 }
 
 -- a bitmap has at most eight words
-few_words : (class : ℕ) → class < 9 → bitmap_words class ≤ 8
-few_words class known = (numbers class known).words
+few_words : (class : ℕ) → class < 9 → bitmap_words shape class ≤ 8
+few_words shape class known = (numbers shape class known).words
 
 -- with the same rest, each slab that was laid out still is, and the header's words `log_ctx` and `data` are as before
 pub rest-laid : (old new : Image) (slab : Slab) → rest_of new ≡ rest_of old → LaysPool old slab → LaysPool new slab
@@ -144,13 +144,13 @@ rest-laid old new slab e p =
     let r = same-rest old new e in
     let s = same-start old new slab p r in
     record {
-      bytes_are = p.bytes_are ∙ sym r.bytes_are;
+      shape_is = p.shape_is ∙ sym r.shape_is;
       sound = p.sound;
       laid = LaysSlab-kept slab old.words new.words p.sound (record {
         same_length = r.same_length;
-        low = λ w low _ _. s.low w (omega (arith, low, ap (λ n. pages_of n) p.bytes_are));
+        low = λ w low _ _. s.low w (omega (arith, low, ap (λ n. pages_of n) p.shape_is));
         bitmaps = λ page class used is kind w low high.
-            let here = bitmap-belongs old slab page class used w p is kind low high (few_words class (p.sound.used page class used is).known) in
+            let here = bitmap-belongs old slab page class used w p is kind low high (few_words shape class (p.sound.used page class used is).known) in
             both_belong (is_layout_word new w) (is_layout_word old w) _ _ (same-layout old new w s ∙ here) here (r.words w);
       }) p.laid;
     }
@@ -160,15 +160,15 @@ rest-root old new slab e p = let s = same-start old new slab p (same-rest old ne
 
 -- ---- one word of a live block
 
-pub rest-set : (old new : Image) (slab : Slab) (at i v : ℕ) → LaysPool old slab → i < live_bytes slab at / 8 → new ≡ record { bytes = old.bytes; words = set old.words (at / 8 + i) v } → rest_of new ≡ rest_of old
+pub rest-set : (old new : Image) (slab : Slab) (at i v : ℕ) → LaysPool old slab → i < live_bytes slab at / 8 → new ≡ record { shape = old.shape; words = set old.words (at / 8 + i) v } → rest_of new ≡ rest_of old
 unfolding rest_of
 rest-set old new slab at i v p low is =
     let b = block_word old slab at i p low in
-    let bytes : new.bytes ≡ old.bytes = ap (λ (m : Image). m.bytes) is in
+    let bytes : new.shape ≡ old.shape = ap (λ (m : Image). m.shape) is in
     let words : new.words ≡ set old.words (at / 8 + i) v = ap (λ (m : Image). m.words) is in
-    let z = zone slab.bytes p.sound.large p.sound.small in
-    let s : SameStart old new = record { bytes_are = bytes; low = λ w l. other words w (λ e. omega (arith, e, l, b.low)) } in
-    ap (λ n. n ∷ layout_words new 0 new.words) bytes ∙ ap (λ vs. old.bytes ∷ vs)
+    let z = zone slab.shape p.sound.large p.sound.small in
+    let s : SameStart old new = record { shape_is = bytes; low = λ w l. other words w (λ e. omega (arith, e, l, b.low)) } in
+    ap (λ n. n ∷ layout_words new 0 new.words) bytes ∙ ap (λ vs. old.shape ∷ vs)
     (same_lists (layout_words new 0 new.words) (layout_words old 0 old.words)
     (length-layout new 0 new.words ∙ ap length words ∙ length-set old.words (at / 8 + i) v ∙ sym (length-layout old 0 old.words))
     (λ k d l.
@@ -179,9 +179,9 @@ rest-set old new slab at i v p low is =
       other : new.words ≡ set old.words (at / 8 + i) v → (w : ℕ) → w ≢ at / 8 + i → get_or new.words w 0 ≡ get_or old.words w 0
       other words w ne = ap (λ ws. get_or ws w 0) words ∙ get_or-set_other old.words (at / 8 + i) w v 0 ne
 
-      here : SameStart old new → new.words ≡ set old.words (at / 8 + i) v → start_of old.bytes ≤ 8 * (at / 8 + i) → is_bitmap_word old (at / 8 + i) ≡ false → (k : ℕ) → (k ≡ at / 8 + i) ⊎ (k ≢ at / 8 + i) → cond (is_layout_word new k) (get_or new.words k 0) 0 ≡ cond (is_layout_word old k) (get_or old.words k 0) 0
+      here : SameStart old new → new.words ≡ set old.words (at / 8 + i) v → start_of old.shape ≤ 8 * (at / 8 + i) → is_bitmap_word old (at / 8 + i) ≡ false → (k : ℕ) → (k ≡ at / 8 + i) ⊎ (k ≢ at / 8 + i) → cond (is_layout_word new k) (get_or new.words k 0) 0 ≡ cond (is_layout_word old k) (get_or old.words k 0) 0
       here s words behind bits k (inl e) =
-          let out : is_layout_word old k ≡ false = ap (λ n. is_layout_word old n) e ∙ neither (8 * (at / 8 + i)) (start_of old.bytes) (is_bitmap_word old (at / 8 + i)) behind bits in
+          let out : is_layout_word old k ≡ false = ap (λ n. is_layout_word old n) e ∙ neither (8 * (at / 8 + i)) (start_of old.shape) (is_bitmap_word old (at / 8 + i)) behind bits in
           nothing (is_layout_word new k) (is_layout_word old k) _ _ (same-layout old new k s ∙ out) out where
             neither : (n start : ℕ) (x : Bool) → start ≤ n → x ≡ false → (ltb n start || x) ≡ false
             neither n start x a b = grind (arith, common_steps)

@@ -4,7 +4,7 @@ use Rattle.std.specs.Int.{bit_at, w64, trailing_ones}
 use Rattle.std.proofs.lemmas.Bool.{cases_lt}
 use Rattle.std.proofs.lemmas.Nat.{one_shl, pow_pos, or_lt, pow_below}
 use Rattle.std.proofs.lemmas.Nat.Bits.{and_pow, bit_at-lt, bit_at_or, bit_at_ones, bit_at_ones_above, bit_at-trailing_ones, same_from_bits_below}
-use Rattle.slab_pool.specs.Words.{IsLowestClear}
+use Rattle.slab_pool.specs.WordBits.{IsLowestClear}
 
 -- the layout's test of a bit
 pub bit_set : (n k : ℕ) → IsBitSet n k ↔ (bit_at n k ≡ 1)

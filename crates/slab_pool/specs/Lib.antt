@@ -1,5 +1,5 @@
-pub mod Words
+pub mod WordBits
 pub mod Links
 pub mod Bits
 pub mod Pool
-pub mod Blocks
+pub mod Live

@@ -1,5 +1,5 @@
 ghost use Rattle.std.specs.Prelude.{◌<◌};
-ghost use Rattle.slab_pool.specs.Words.{IsLowestClear};
+ghost use Rattle.slab_pool.specs.WordBits.{IsLowestClear};
 
 use crate::places::{descriptor_of, page_word, slab};
 use slab_model::geometry::{blocks_in_page, first_index};

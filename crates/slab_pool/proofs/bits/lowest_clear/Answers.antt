@@ -1,5 +1,5 @@
 use Rattle.std.proofs.Common.{ℕ, subst, sym}
-use Rattle.slab_pool.specs.Words.{IsLowestClear}
+use Rattle.slab_pool.specs.WordBits.{IsLowestClear}
 use Rattle.slab_pool.proofs.WordLemmas.{lowest_clear}
 use Rattle.slab_pool.proofs.bits.lowest_clear.Goals as goal
 

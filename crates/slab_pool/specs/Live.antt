@@ -2,8 +2,9 @@
 use Rattle.std.specs.Prelude.{ℕ, ◌≡◌, ◌+◌, ◌-◌, ◌*◌, ◌/◌, ◌%◌, ◌^◌, ◌≤◌, suc, Bool, false, not, ◌&&◌, ◌||◌, nat_eq, nat_lt, nat_le, List, [], ◌∷◌, length, slice_index, slice_range, if◌then◌else◌}
 use Rattle.std.specs.Int.{bit_at}
 use Rattle.zone_region.specs.Words.{Words}
+use Rattle.slab_model.specs.declared.shape.Shape.{Shape}
 use Rattle.slab_model.specs.Geometry.{page_size, start_of, pages_of, class_size, first_index, kind_of}
-use Rattle.slab_model.specs.Slab.{page_number, place_in_page}
+use Rattle.slab_model.specs.Blocks.{page_number, place_in_page}
 use Rattle.slab_pages.specs.Places.{Image, log_ctx_word, data_word, bitmap_words, descriptor_word, descriptor, slab_at, prev_at}
 use Rattle.slab_pool.specs.Bits.{bits_word}
 
@@ -20,23 +21,23 @@ class_in words page = if nat_eq (page_type words page) 2 then 3 else slab_at wor
 -- ---- live blocks
 
 -- the bytes of the used run that begins so far into a page with this slab word, 0 where none does
-abbrev pub run_bytes : ℕ → ℕ → ℕ
-run_bytes slab place = if nat_eq place 0 && (nat_le (2 ^ 63) slab && not (nat_eq slab (2 ^ 64 - 1))) then page_size * (slab - 2 ^ 63) else 0
+abbrev pub run_bytes : Shape → ℕ → ℕ → ℕ
+run_bytes shape slab place = if nat_eq place 0 && (nat_le (2 ^ 63) slab && not (nat_eq slab (2 ^ 64 - 1))) then page_size shape * (slab - 2 ^ 63) else 0
 
 -- the bit of the block is set, and it isn't one of those that hold the bits
-abbrev pub is_used_at : List ℕ → ℕ → ℕ → ℕ → ℕ → Bool
-is_used_at words bytes page class index = nat_le (first_index class) index && nat_eq (bit_at (bits_word (kind_of class) words bytes page (index / 64)) (index % 64)) 1
+abbrev pub is_used_at : List ℕ → Shape → ℕ → ℕ → ℕ → Bool
+is_used_at words shape page class index = nat_le (first_index shape class) index && nat_eq (bit_at (bits_word (kind_of shape class) words shape page (index / 64)) (index % 64)) 1
 
 -- the bytes of the used block of the class that begins so far into a page, 0 where none does
-abbrev pub class_bytes : List ℕ → ℕ → ℕ → ℕ → ℕ → ℕ
-class_bytes words bytes page class place = if nat_eq (place % class_size class) 0 && is_used_at words bytes page class (place / class_size class) then class_size class else 0
+abbrev pub class_bytes : List ℕ → Shape → ℕ → ℕ → ℕ → ℕ
+class_bytes words shape page class place = if nat_eq (place % class_size class) 0 && is_used_at words shape page class (place / class_size class) then class_size class else 0
 
-abbrev pub bytes_in_page : List ℕ → ℕ → ℕ → ℕ → ℕ
-bytes_in_page words bytes page place = if nat_eq (page_type words page) 0 then run_bytes (slab_at words (descriptor page)) place else class_bytes words bytes page (class_in words page) place
+abbrev pub bytes_in_page : List ℕ → Shape → ℕ → ℕ → ℕ
+bytes_in_page words shape page place = if nat_eq (page_type words page) 0 then run_bytes shape (slab_at words (descriptor page)) place else class_bytes words shape page (class_in words page) place
 
 -- the bytes of the live block that begins at this offset, 0 where none begins there
 unfoldable pub bytes_at : Image → ℕ → ℕ
-bytes_at image at = if nat_lt at (start_of image.bytes) || nat_le (pages_of image.bytes) (page_number image.bytes at) then 0 else bytes_in_page image.words image.bytes (page_number image.bytes at) (place_in_page image.bytes at)
+bytes_at image at = if nat_lt at (start_of image.shape) || nat_le (pages_of image.shape) (page_number image.shape at) then 0 else bytes_in_page image.words image.shape (page_number image.shape at) (place_in_page image.shape at)
 
 -- its words
 unfoldable pub block_words : Image → Words
@@ -46,28 +47,28 @@ block_words image at = slice_range image.words (at / 8) (at / 8 + bytes_at image
 
 -- the word is one of the bits at the beginning of a small class's page
 unfoldable pub is_bitmap_word : Image → ℕ → Bool
-is_bitmap_word image w = nat_le (start_of image.bytes) (8 * w) && (nat_lt (page_number image.bytes (8 * w)) (pages_of image.bytes) && (nat_eq (page_type image.words (page_number image.bytes (8 * w))) 3 && nat_lt (place_in_page image.bytes (8 * w) / 8) (bitmap_words (class_in image.words (page_number image.bytes (8 * w))))))
+is_bitmap_word image w = nat_le (start_of image.shape) (8 * w) && (nat_lt (page_number image.shape (8 * w)) (pages_of image.shape) && (nat_eq (page_type image.words (page_number image.shape (8 * w))) 3 && nat_lt (place_in_page image.shape (8 * w) / 8) (bitmap_words image.shape (class_in image.words (page_number image.shape (8 * w))))))
 
 -- the word stands before the pages, or is one of a bitmap
 abbrev pub is_layout_word : Image → ℕ → Bool
-is_layout_word image w = nat_lt (8 * w) (start_of image.bytes) || is_bitmap_word image w
+is_layout_word image w = nat_lt (8 * w) (start_of image.shape) || is_bitmap_word image w
 
 -- these words, from word `w` on, with 0 for each that isn't one of the layout
 abbrev pub layout_words : Image → ℕ → List ℕ → List ℕ
 layout_words image w [] = []
 layout_words image w (v ∷ vs) = (if is_layout_word image w then v else 0) ∷ layout_words image (suc w) vs
 
--- what a pool is but for the words of its blocks: the zone's bytes, and its words with 0 for those of the pages but for bitmaps
+-- what a pool is but for the words of its blocks: the zone's shape, and its words with 0 for those of the pages but for bitmaps
 unfoldable pub rest_of : Image → List ℕ
-rest_of image = image.bytes ∷ layout_words image 0 image.words
+rest_of image = image.shape.bytes ∷ image.shape.page_shift ∷ layout_words image 0 image.words
 
 -- ---- what a call leaves
 
 -- no word of a page but for those of bitmaps changed, and the words that name the context and the name block didn't
 pub record KeepsPages (old new : Image) : Type 0 where
-  pub bytes_are : new.bytes ≡ old.bytes
+  pub shape_is : new.shape ≡ old.shape
   pub same_length : length new.words ≡ length old.words
-  pub pages : (w : ℕ) → descriptor_word (pages_of old.bytes) ≤ w → is_bitmap_word old w ≡ false → is_bitmap_word new w ≡ false → slice_index new.words w ≡ slice_index old.words w
+  pub pages : (w : ℕ) → descriptor_word (pages_of old.shape) ≤ w → is_bitmap_word old w ≡ false → is_bitmap_word new w ≡ false → slice_index new.words w ≡ slice_index old.words w
   pub log_ctx : slice_index new.words log_ctx_word ≡ slice_index old.words log_ctx_word
   pub data_is : slice_index new.words data_word ≡ slice_index old.words data_word
 
