@@ -1,14 +1,17 @@
 -- In a sound slab whose words are laid out, each used run and each page of a class can come back.
-use Rattle.std.proofs.Common.{ℕ, ◌≡◌, ◌≢◌, ◌+◌, ◌%◌, ◌<◌, true, false, not, List, [], ◌∷◌, refl, arith, inl, inr, sym, ap, ◌∙◌}
+use Rattle.std.proofs.Common.{ℕ, ◌≡◌, ◌≢◌, ◌+◌, ◌%◌, ◌<◌, false, not, List, [], ◌∷◌, refl, arith, inl, inr, sym, ap, ◌∙◌}
 use Rattle.std.proofs.lemmas.Bool.{cases_eq, cases_Bool}
-use Rattle.std.proofs.lemmas.Grind.{common_steps}
 use Rattle.slab_model.specs.declared.runs.Run.{Run}
+use Rattle.slab_model.specs.declared.shape.Shape.{Shape}
 use Rattle.slab_model.specs.declared.page.PageState.{PageState}
 use Rattle.slab_model.specs.declared.page.PageState.TheVariants.{Free, First, Later, Class}
-use Rattle.slab_model.specs.Geometry.{Kind, small, exact, big, kind_of, pages_of}
-use Rattle.slab_model.specs.Numbers.{is_member}
+use Rattle.slab_model.specs.Geometry.{Kind, small, exact, big, kind_of}
+use Rattle.zone_region.specs.Members.{In}
 use Rattle.slab_model.specs.Runs.{is_covered}
-use Rattle.slab_model.specs.Slab.{Slab, IsSound, page_at, list_of, is_full, is_free, has_room}
+use Rattle.slab_model.specs.State.{Slab, pages_in, page_at, list_of}
+use Rattle.slab_model.specs.Soundness.{IsSound, has_room}
+use Rattle.slab_model.specs.Blocks.{is_full}
+use Rattle.slab_model.specs.Counting.{is_free}
 use Rattle.slab_model.proofs.StateLemmas.{has_room-own}
 use Rattle.slab_pages.specs.Places.{descriptor, prev_at, class_head}
 use Rattle.slab_pages.specs.Layout.{IsBusy, CanComeBack, MayPut}
@@ -32,19 +35,13 @@ plain exact = λ e. omega (arith, e)
 plain big = λ e. omega (arith, e)
 
 -- a page in a class's list has its type
-listed : (words : List ℕ) (class o page : ℕ) (pages : List ℕ) → o % 8 ≡ 0 → LaysPages words class o pages → is_member page pages ≡ true → prev_at words (descriptor page) % 4 ≢ 0
-listed words class o page [] e h m = absurd (none page m) where
-  none : (page : ℕ) → is_member page [] ≡ true → ⊥
-  none page h = cc
-listed words class o page (q ∷ qs) e h m = elim (cases_eq page q) [
-  | inl same ↦ λ z. typed (kind_of class) o e (ap (λ n. n % 4) (sym (ap (λ n. prev_at words (descriptor n)) same ∙ h.1)) ∙ z)
-  | inr other ↦ listed words class (descriptor q) page qs (eight q) h.2 (rest page q qs other m)
-] where
-  rest : (page q : ℕ) (qs : List ℕ) → page ≢ q → is_member page (q ∷ qs) ≡ true → is_member page qs ≡ true
-  rest page q qs other m = grind (arith, common_steps, other, m)
+listed : (words : List ℕ) (shape : Shape) (class o page : ℕ) (pages : List ℕ) → o % 8 ≡ 0 → LaysPages words shape class o pages → In page pages → prev_at words (descriptor page) % 4 ≢ 0
+listed words shape class o page [] e h m = absurd m
+listed words shape class o page (q ∷ qs) e h (inl same) = λ z. typed (kind_of shape class) o e (ap (λ n. n % 4) (sym (ap (λ n. prev_at words (descriptor n)) same ∙ h.1)) ∙ z)
+listed words shape class o page (q ∷ qs) e h (inr other) = listed words shape class (descriptor q) page qs (eight q) h.2 other
 
 -- a page that isn't free has the descriptor of one
-pub busy : (words : List ℕ) (slab : Slab) (page : ℕ) → IsSound slab → LaysSlab words slab → page < pages_of slab.bytes → is_covered page slab.runs ≡ false → IsBusy words page
+pub busy : (words : List ℕ) (slab : Slab) (page : ℕ) → IsSound slab → LaysSlab words slab → page < pages_in slab → is_covered page slab.runs ≡ false → IsBusy words page
 busy words slab page s l below free = go (page_at slab.pages page) refl where
   go : (state : PageState) → page_at slab.pages page ≡ state → IsBusy words page
   go Free is = absurd (wrong (sym (ap is_free is) ∙ s.free page below ∙ free)) where
@@ -52,14 +49,14 @@ busy words slab page s l below free = go (page_at slab.pages page) refl where
     wrong h = cc
   go (First n) is = let h = l.used_runs page n is in inr (h.first.next_is, λ e. omega (arith, sym h.first.slab_is ∙ e))
   go Later is = let b = s.used_runs.belongs page is in let h = (l.used_runs b.0 b.1 b.2).later page b.3 b.4 in inr (h.next_is, λ e. omega (arith, sym h.slab_is ∙ e))
-  go (Class class used) is = elim (cases_Bool (is_full class used)) [
-    | inl full ↦ inl (λ z. plain (kind_of class) (ap (λ n. n % 4) (sym ((l.classes page class used is).prev_if_full full)) ∙ z))
-    | inr room ↦ let known = (s.used page class used is).known in inl (listed words class (class_head class) page (list_of slab class) (omega arith) (l.lists class known).linked
-        ((s.lists class known).just page ∙ ap (has_room class) is ∙ has_room-own class used ∙ ap not room))
+  go (Class class used) is = elim (cases_Bool (is_full slab.shape class used)) [
+    | inl full ↦ inl (λ z. plain (kind_of slab.shape class) (ap (λ n. n % 4) (sym ((l.classes page class used is).prev_if_full full)) ∙ z))
+    | inr room ↦ let known = (s.used page class used is).known in inl (listed words slab.shape class (class_head class) page (list_of slab class) (omega arith) (l.lists class known).linked
+        (((s.lists class known).just page).1 (ap (has_room slab.shape class) is ∙ has_room-own slab.shape class used ∙ ap not room)))
   ]
 
 -- a used run can come back
-pub run-back : (words : List ℕ) (slab : Slab) (page n : ℕ) → IsSound slab → LaysSlab words slab → page_at slab.pages page ≡ First n → CanComeBack (pages_of slab.bytes) words slab.runs (record { first = page; pages = n })
+pub run-back : (words : List ℕ) (slab : Slab) (page n : ℕ) → IsSound slab → LaysSlab words slab → page_at slab.pages page ≡ First n → CanComeBack (pages_in slab) words slab.runs (record { first = page; pages = n })
 run-back words slab page n s l is = let f = s.used_runs.followed page n is in record {
   some = f.0;
   within = f.1;
@@ -72,7 +69,7 @@ run-back words slab page n s l is = let f = s.used_runs.followed page n is in re
 }
 
 -- the page of a class can come back
-pub page-back : (words : List ℕ) (slab : Slab) (page class : ℕ) (indexes : List ℕ) → IsSound slab → LaysSlab words slab → page_at slab.pages page ≡ Class class indexes → page < pages_of slab.bytes → CanComeBack (pages_of slab.bytes) words slab.runs (record { first = page; pages = 1 })
+pub page-back : (words : List ℕ) (slab : Slab) (page class : ℕ) (indexes : List ℕ) → IsSound slab → LaysSlab words slab → page_at slab.pages page ≡ Class class indexes → page < pages_in slab → CanComeBack (pages_in slab) words slab.runs (record { first = page; pages = 1 })
 page-back words slab page class indexes s l is below = record {
   some = omega arith;
   within = omega (arith, below);
@@ -82,10 +79,10 @@ page-back words slab page class indexes s l is below = record {
 }
 
 -- so each of them meets what `Pages::put` asks
-pub run-may_put : (words : List ℕ) (slab : Slab) (page n : ℕ) → IsSound slab → LaysSlab words slab → page_at slab.pages page ≡ First n → MayPut (record { bytes = slab.bytes; words = words }) (record { first = page; pages = n })
+pub run-may_put : (words : List ℕ) (slab : Slab) (page n : ℕ) → IsSound slab → LaysSlab words slab → page_at slab.pages page ≡ First n → MayPut (record { shape = slab.shape; words = words }) (record { first = page; pages = n })
 run-may_put words slab page n s l is = (slab.runs, l.runs, run-back words slab page n s l is)
 
-pub page-may_put : (words : List ℕ) (slab : Slab) (page class : ℕ) (indexes : List ℕ) → IsSound slab → LaysSlab words slab → page_at slab.pages page ≡ Class class indexes → page < pages_of slab.bytes → MayPut (record { bytes = slab.bytes; words = words }) (record { first = page; pages = 1 })
+pub page-may_put : (words : List ℕ) (slab : Slab) (page class : ℕ) (indexes : List ℕ) → IsSound slab → LaysSlab words slab → page_at slab.pages page ≡ Class class indexes → page < pages_in slab → MayPut (record { shape = slab.shape; words = words }) (record { first = page; pages = 1 })
 page-may_put words slab page class indexes s l is below = (slab.runs, l.runs, page-back words slab page class indexes s l is below)
 
 -- and still does where other words change, as long as pages that aren't free keep the descriptor of one

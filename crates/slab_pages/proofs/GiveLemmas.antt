@@ -4,7 +4,7 @@ use Rattle.std.specs.Prelude.{filter, if◌then◌else◌}
 use Rattle.std.proofs.lemmas.Grind.{common_steps}
 use Rattle.std.proofs.lemmas.Bool.{cases_eq, cases_lt}
 use Rattle.slab_model.specs.declared.runs.Run.{Run}
-use Rattle.slab_model.specs.Runs.{IsApart, AreSound, is_covered, page_total, pages_from, pages_before, merged_run, is_beside, first_fit, take_run, give_run}
+use Rattle.slab_model.specs.Runs.{IsRunApart, AreSound, is_covered, page_total, pages_from, pages_before, merged_run, is_beside, first_fit, take_run, give_run}
 use Rattle.slab_model.proofs.RunLemmas.{AreSound-give, is_covered-give, is_covered-take, page_total-take, first_fit-covered, is_within-in}
 use Rattle.slab_pages.specs.Places.{free_head, pfree_word, descriptor, KeepsOthers, is_list_word, is_run_word, descriptor_word, descriptor_page, free_word}
 use Rattle.slab_pages.specs.Layout.{IsBusy, CanComeBack}
@@ -40,7 +40,7 @@ unfolding listed_below
 listed_below-none zero = refl
 listed_below-none (suc k) = listed_below-none k
 
-listed_below-cons : (k : ℕ) (x : Run) (xs : List Run) → 0 < x.pages → IsApart x xs → listed_below k (x ∷ xs) ≡ listed_below k xs + overlap k x
+listed_below-cons : (k : ℕ) (x : Run) (xs : List Run) → 0 < x.pages → IsRunApart x xs → listed_below k (x ∷ xs) ≡ listed_below k xs + overlap k x
 unfolding listed_below overlap
 listed_below-cons zero x xs some apart = omega arith
 listed_below-cons (suc k) x xs some apart =

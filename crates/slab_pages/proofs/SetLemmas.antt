@@ -44,5 +44,5 @@ pub may_set-used : (image : Image) (runs : List Run) (page w : ℕ) → LaysRuns
 may_set-used image runs page w h within free low high = record { within = within; not_listed = list_word-past w (omega (arith, low)); not_free = (runs, h, run_word-used runs page w free low high) }
 
 -- a word past the descriptors
-pub may_set-past : (image : Image) (runs : List Run) (w : ℕ) → LaysRuns image runs → w < length image.words → descriptor_word (pages_of image.bytes) ≤ w → MaySet image w
-may_set-past image runs w h within past = record { within = within; not_listed = list_word-past w (omega (arith, past)); not_free = (runs, h, run_word-past (pages_of image.bytes) runs w h.sound past) }
+pub may_set-past : (image : Image) (runs : List Run) (w : ℕ) → LaysRuns image runs → w < length image.words → descriptor_word (pages_of image.shape) ≤ w → MaySet image w
+may_set-past image runs w h within past = record { within = within; not_listed = list_word-past w (omega (arith, past)); not_free = (runs, h, run_word-past (pages_of image.shape) runs w h.sound past) }

@@ -3,7 +3,7 @@ use Rattle.std.proofs.Common.{ℕ, ◌≡◌, ◌≢◌, ◌⊎◌, ◌+◌, ◌
 use Rattle.std.proofs.lemmas.Grind.{common_steps}
 use Rattle.std.proofs.lemmas.Bool.{cases_eq, cases_lt}
 use Rattle.slab_model.specs.declared.runs.Run.{Run}
-use Rattle.slab_model.specs.Runs.{IsApart, AreSound, is_covered, pages_from}
+use Rattle.slab_model.specs.Runs.{IsRunApart, AreSound, is_covered, pages_from}
 use Rattle.slab_pages.specs.Places.{free_head, pfree_word, descriptor, slab_at, next_at, prev_at, HasWords, IsPlace, Links, KeepsOthers, is_list_word, is_run_word, descriptor_word, descriptor_page, free_word}
 use Rattle.slab_pages.specs.Layout.{HasTail, LaysFrom}
 use Rattle.slab_pages.specs.Frames.{SameWords}
@@ -13,7 +13,7 @@ use Rattle.slab_pages.proofs.ListLemmas.{pages_from-here, pages_from-there, page
 
 -- ---- the list without a run
 
-pub IsApart-without : (y : Run) (runs : List Run) (first : ℕ) → IsApart y runs → IsApart y (without_run first runs)
+pub IsApart-without : (y : Run) (runs : List Run) (first : ℕ) → IsRunApart y runs → IsRunApart y (without_run first runs)
 IsApart-without y [] first apart = tt
 IsApart-without y (x ∷ xs) first apart = let ih = IsApart-without y xs first apart.1 in grind (arith, common_steps, ih)
 

@@ -1,8 +1,8 @@
 -- What a change of some words of a zone leaves as it was.
 use Rattle.std.specs.Prelude.{ℕ, ◌≡◌, ◌≢◌, ◌⊎◌, ◌+◌, ◌<◌, ◌≤◌, List, length, slice_index}
 use Rattle.slab_model.specs.declared.page.PageState.TheVariants.{Class}
-use Rattle.slab_model.specs.Geometry.{pages_of, kind_of, small}
-use Rattle.slab_model.specs.Slab.{Slab, page_at}
+use Rattle.slab_model.specs.Geometry.{kind_of, small}
+use Rattle.slab_model.specs.State.{Slab, page_at, pages_in}
 use Rattle.slab_pages.specs.Places.{log_ctx_word, data_word, head_word, stat_word, descriptor_word, page_word, bitmap_words, slab_at, next_at, prev_at}
 
 -- the words from `low` up to `high` are as before
@@ -40,5 +40,5 @@ ChangesStat old new class = ChangesFrom old new (stat_word class) (stat_word cla
 -- every word that the layout of the slab speaks of is as before
 pub record SameLaid (old new : List ℕ) (slab : Slab) : Type 0 where
   pub same_length : length new ≡ length old
-  pub low : (w : ℕ) → w < descriptor_word (pages_of slab.bytes) → w ≢ log_ctx_word → w ≢ data_word → slice_index new w ≡ slice_index old w
-  pub bitmaps : (page class : ℕ) (used : List ℕ) → page_at slab.pages page ≡ Class class used → kind_of class ≡ small → SameFrom old new (page_word slab.bytes page) (page_word slab.bytes page + bitmap_words class)
+  pub low : (w : ℕ) → w < descriptor_word (pages_in slab) → w ≢ log_ctx_word → w ≢ data_word → slice_index new w ≡ slice_index old w
+  pub bitmaps : (page class : ℕ) (used : List ℕ) → page_at slab.pages page ≡ Class class used → kind_of slab.shape class ≡ small → SameFrom old new (page_word slab.shape page) (page_word slab.shape page + bitmap_words slab.shape class)

@@ -17,8 +17,8 @@ LaysFrom words o (run ∷ runs) = (next_at words o ≡ descriptor run.first) × 
 
 -- the words lay out this list of free runs, which is sound
 pub record LaysRuns (image : Image) (runs : List Run) : Type 0 where
-  pub sized : length image.words ≡ image.bytes / 8
-  pub sound : AreSound (pages_of image.bytes) runs
+  pub sized : length image.words ≡ image.shape.bytes / 8
+  pub sound : AreSound (pages_of image.shape) runs
   pub slab_is : slab_at image.words free_head ≡ 0
   pub prev_is : prev_at image.words free_head ≡ 0
   pub linked : LaysFrom image.words free_head runs
@@ -49,4 +49,4 @@ pub record CanComeBack (count : ℕ) (words : List ℕ) (runs : List Run) (run :
 
 -- these pages of the zone can come back to its free runs
 abbrev pub MayPut : Image → Run → Type 0
-MayPut image run = (runs : List Run) × LaysRuns image runs × CanComeBack (pages_of image.bytes) image.words runs run
+MayPut image run = (runs : List Run) × LaysRuns image runs × CanComeBack (pages_of image.shape) image.words runs run

@@ -1,6 +1,8 @@
 pub use Rattle.slab_model.specs.Geometry
 pub use Rattle.slab_model.specs.Runs
-pub use Rattle.slab_model.specs.Slab
+pub use Rattle.slab_model.specs.State
+pub use Rattle.slab_model.specs.Soundness
+pub mod Shapes
 pub mod Places
 pub mod Layout
 pub mod Frames

@@ -1,21 +1,22 @@
 -- Where the words of a zone stand, by the names of `ngx_slab_pool_t`, `ngx_slab_stat_t` and `ngx_slab_page_t`. A place is the number of a word; links hold byte offsets.
 use Rattle.std.specs.Prelude.{ℕ, ◌≡◌, ◌≢◌, ◌⊎◌, length, ◌+◌, ◌*◌, ◌-◌, ◌/◌, Bool, false, ◌&&◌, ◌||◌, nat_le, nat_eq, List, slice_index}
 use Rattle.slab_model.specs.declared.runs.Run.{Run}
-use Rattle.slab_model.specs.Geometry.{blocks_in_page, class_count, greatest_zone, page_offset, page_size}
+use Rattle.slab_model.specs.declared.shape.Shape.{Shape}
+use Rattle.slab_model.specs.Geometry.{blocks_in_page, greatest_zone, page_offset}
 use Rattle.slab_model.specs.Runs.{is_covered}
 
--- a zone: its bytes, and its words
+-- a zone: its shape, and its words
 pub record Image : Type 0 where
-  pub bytes : ℕ
+  pub shape : Shape
   pub words : List ℕ
 
 -- the byte offset of a word
 abbrev pub byte_of : ℕ → ℕ
 byte_of w = 8 * w
 
--- no zone has more pages
+-- no zone has more pages, of which the smallest have 4096 bytes
 abbrev pub page_limit : ℕ
-page_limit = greatest_zone / page_size
+page_limit = greatest_zone / 4096
 
 -- no zone has more words
 abbrev pub word_limit : ℕ
@@ -86,7 +87,7 @@ data_word = 23
 abbrev pub addr_word : ℕ
 addr_word = 24
 
--- ---- behind the header
+-- ---- behind the header, the heads and the statistics of the nine classes, and the descriptors
 
 -- the head of a class's list of pages, which is laid out like a descriptor
 abbrev pub head_word : ℕ → ℕ
@@ -94,23 +95,23 @@ head_word class = addr_word + 1 + 3 * class
 
 -- the first of the four words of a class's statistics: total, used, reqs and fails
 abbrev pub stat_word : ℕ → ℕ
-stat_word class = head_word class_count + 4 * class
+stat_word class = head_word 9 + 4 * class
 
 -- the first of the three words of a page's descriptor: slab, next and prev
 abbrev pub descriptor_word : ℕ → ℕ
-descriptor_word page = stat_word class_count + 3 * page
+descriptor_word page = stat_word 9 + 3 * page
 
 -- the page whose descriptor has this word
 abbrev pub descriptor_page : ℕ → ℕ
 descriptor_page w = (w - descriptor_word 0) / 3
 
 -- the first word of a page
-abbrev pub page_word : ℕ → ℕ → ℕ
-page_word bytes page = page_offset bytes page / 8
+abbrev pub page_word : Shape → ℕ → ℕ
+page_word shape page = page_offset shape page / 8
 
 -- the words of the bits of a small class's page, one bit for each of its blocks
-abbrev pub bitmap_words : ℕ → ℕ
-bitmap_words class = (blocks_in_page class + 63) / 64
+abbrev pub bitmap_words : Shape → ℕ → ℕ
+bitmap_words shape class = (blocks_in_page shape class + 63) / 64
 
 -- ---- what links hold
 

@@ -1,7 +1,7 @@
 -- What the steps of taking and giving back a run leave in the words.
 use Rattle.std.specs.Prelude.{ℕ, ◌≡◌, ◌⊎◌, ◌+◌, ◌-◌, ◌/◌, ◌<◌, ◌≤◌, false, nat_eq, List, [], ◌∷◌, length, slice_index, if◌then◌else◌}
 use Rattle.slab_model.specs.declared.runs.Run.{Run}
-use Rattle.slab_model.specs.Runs.{IsApart, AreSound, is_covered, pages_from, pages_before, take_run, give_run}
+use Rattle.slab_model.specs.Runs.{IsRunApart, AreSound, is_covered, pages_from, pages_before, take_run, give_run}
 use Rattle.slab_pages.specs.Places.{free_head, pfree_word, descriptor, slab_at, next_at, prev_at, HasWords, KeepsOthers, page_limit, descriptor_word}
 use Rattle.slab_pages.specs.Frames.{SameWords}
 use Rattle.slab_pages.specs.Layout.{HasTail, LaysFrom, IsBusy, HasUsedRun}
@@ -75,7 +75,7 @@ pub record Relists (count : ℕ) (runs after : List Run) (old new : List ℕ) : 
 pub record IsCleared (count : ℕ) (words : List ℕ) (runs : List Run) (run : Run) : Type 0 where
   pub some : 0 < run.pages
   pub within : run.first + run.pages ≤ count
-  pub apart : IsApart run runs
+  pub apart : IsRunApart run runs
   pub cleared : (page : ℕ) → run.first ≤ page → page < run.first + run.pages → HasWords words (descriptor page) 0 0 0
 
 -- the run that begins at this page is free, or the page isn't, or it is the end of the zone

@@ -7,7 +7,7 @@ ghost use Rattle.slab_pages.specs.Steps.{IsClearOfFree, LaysList};
 
 use crate::descriptors::{next, offset_of, page_of, prev, slab};
 use crate::places::FREE_HEAD;
-use slab_model::runs::Run;
+use slab_model::Run;
 use zone_region::Region;
 
 // The page is one of the `pages` pages from `first` on.

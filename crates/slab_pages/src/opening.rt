@@ -1,5 +1,6 @@
 ghost use Rattle.std.specs.Prelude.{◌≡◌, ◌/◌, ◌≤◌, length, replicate, IsTrue};
-ghost use Rattle.slab_model.specs.Geometry.{class_count};
+ghost use Rattle.slab_model.specs.Geometry.{IsInLimits, class_count as count_of_classes};
+ghost use Rattle.slab_pages.specs.Shapes.{shape_in};
 ghost use Rattle.slab_pages.specs.Places.{descriptor_word};
 ghost use Rattle.slab_pages.specs.Opening.{IsPrepared, WritesHeads, all_below, put_all};
 
@@ -9,7 +10,7 @@ use crate::places::{
     END_WORD, FREE_HEAD, FREE_WORD, LAST_WORD, MIN_SHIFT_WORD, MIN_SIZE_WORD, PAGES_WORD,
     START_WORD, STATS_WORD, byte_offset, head_at, stat_at,
 };
-use slab_model::geometry::CLASS_COUNT;
+use slab_model::{Shape, class_count};
 use zone_region::Region;
 
 // Writes these values to these words, one after another.
@@ -24,11 +25,12 @@ fn put_words(region: &mut Region, entries: &[(u64, u64)])
 }
 
 // Makes the head of each class's list point to itself.
-fn write_heads(region: &mut Region)
-    requires { descriptor_word 0 ≤ length region.old }
-    ensures { WritesHeads region.old region.new class_count }
+fn write_heads(region: &mut Region, shape: Shape)
+    requires room { descriptor_word 0 ≤ length region.old }
+    requires limits { IsInLimits shape }
+    ensures { WritesHeads region.old region.new (count_of_classes shape) }
 {
-    for class in 0..CLASS_COUNT {
+    for class in 0..class_count(shape) {
         let head = head_at(class);
         region.store(head + 1, byte_offset(head));
     }
@@ -38,7 +40,7 @@ fn write_heads(region: &mut Region)
 // The words are those of `ngx_slab_pool_t`, in its order.
 pub(crate) fn prepare(region: &mut Region, g: &Geometry)
     requires { region.old ≡ replicate (g.now.bytes / 8) 0 }
-    ensures { IsPrepared g.now.bytes region.new }
+    ensures { IsPrepared (shape_in g.now) region.new }
 {
     let header = [
         (MIN_SIZE_WORD, 8),
@@ -51,5 +53,5 @@ pub(crate) fn prepare(region: &mut Region, g: &Geometry)
         (END_WORD, g.bytes),
     ];
     put_words(region, &header);
-    write_heads(region);
+    write_heads(region, g.shape());
 }

@@ -1,6 +1,7 @@
 ghost use Rattle.std.specs.Prelude.{◌≡◌, ◌+◌, ◌<◌, ◌/◌, length, false, List, Some, None, MatchOption, IfSome, IfNone, IfOk, IsTrue, ◌↔◌, slice_index, slice_set};
 ghost use Rattle.slab_model.specs.declared.runs.Run.{Run};
 ghost use Rattle.slab_model.specs.Runs.{first_fit, give_run, page_total, take_run};
+ghost use Rattle.slab_pages.specs.Shapes.{shape_in};
 ghost use Rattle.slab_pages.specs.Places.{Image, KeepsOthers};
 ghost use Rattle.slab_pages.specs.Layout.{HasUsedRun, LaysRuns, MayPut, MaySet};
 ghost use Rattle.slab_pages.specs.SlabLayout.{IsOpened};
@@ -36,14 +37,15 @@ pub struct Pages {
 impl Model for Pages {
     ghost use Rattle.std.specs.Prelude.{List};
     ghost use Rattle.slab_model.specs.declared.runs.Run.{Run};
+    ghost use Rattle.slab_pages.specs.Shapes.{shape_in};
     ghost use Rattle.slab_pages.specs.Places.{Image};
     ghost use Rattle.slab_pages.specs.Layout.{LaysRuns};
 
     ghost Value = { Image };
 
-    ghost view = { λ p. record { bytes = p.geometry.bytes; words = p.region } };
+    ghost view = { λ p. record { shape = shape_in p.geometry; words = p.region } };
 
-    ghost invariant = { λ p. ((runs : List Run) × LaysRuns (record { bytes = p.geometry.bytes; words = p.region }) runs) };
+    ghost invariant = { λ p. ((runs : List Run) × LaysRuns (record { shape = shape_in p.geometry; words = p.region }) runs) };
 }
 
 impl Pages {
@@ -51,7 +53,7 @@ impl Pages {
     ///
     /// `NoMemory` comes where there is no memory for the zone's bytes, and for nothing else.
     pub fn open(alloc: Global, g: Geometry) -> Result<Pages, NoMemory>
-        ensures { IfOk result (λ pages. IsOpened g.bytes pages) }
+        ensures { IfOk result (λ pages. IsOpened (shape_in g) pages) }
     {
         let mut region = Region::zeroed(alloc, g.bytes / 8)?;
         prepare(&mut region, &g);
@@ -65,7 +67,7 @@ impl Pages {
 
     /// How the zone is cut.
     pub fn geometry(&self) -> Geometry
-        ensures { result.bytes ≡ self.now.bytes }
+        ensures { shape_in result ≡ self.now.shape }
     {
         self.geometry
     }
@@ -97,7 +99,7 @@ impl Pages {
     /// Makes word `w` be `v`, and leaves every other word. It may not be one that the free runs are kept in.
     pub fn set_word(&mut self, w: u64, v: u64)
         requires { MaySet self.old w }
-        ensures set { self.new ≡ record { bytes = self.old.bytes; words = slice_set self.old.words w v } }
+        ensures set { self.new ≡ record { shape = self.old.shape; words = slice_set self.old.words w v } }
         ensures laid { (runs : List Run) → LaysRuns self.old runs → LaysRuns self.new runs }
     {
         self.region.store(w, v);
@@ -114,7 +116,7 @@ impl Pages {
         ensures laid { (runs : List Run) → LaysRuns self.old runs → LaysRuns self.new (take_run n runs) }
         ensures used { IfSome result (λ p. HasUsedRun self.new.words p.number n) }
         ensures kept { (runs : List Run) → LaysRuns self.old runs → KeepsOthers runs self.old.words self.new.words }
-        ensures bytes { self.new.bytes ≡ self.old.bytes }
+        ensures shape { self.new.shape ≡ self.old.shape }
         ensures none { IfNone result (self.new ≡ self.old) }
     {
         match find_fit(&self.region, n) {
@@ -154,7 +156,7 @@ impl Pages {
             (runs : List Run) → LaysRuns self.old runs → LaysRuns self.new (give_run run runs) }
         ensures kept { let run : Run = record { first = p.number; pages = n } in
             (runs : List Run) → LaysRuns self.old runs → KeepsOthers (give_run run runs) self.old.words self.new.words }
-        ensures bytes { self.new.bytes ≡ self.old.bytes }
+        ensures shape { self.new.shape ≡ self.old.shape }
     {
         give_pages(&mut self.region, self.geometry.pages, p.number, n);
     }

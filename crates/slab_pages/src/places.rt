@@ -1,8 +1,5 @@
 ghost use Rattle.std.specs.Prelude.{◌≡◌, ◌<◌, ◌≤◌};
-ghost use Rattle.slab_model.specs.Geometry.{class_count};
 ghost use Rattle.slab_pages.specs.Places.{page_limit, word_limit, byte_of, head_word, stat_word, descriptor_word};
-
-use slab_model::geometry::CLASS_COUNT;
 
 /// The header's word `min_size`: the least size of a block, in bytes.
 pub const MIN_SIZE_WORD: u64 = 2;
@@ -43,6 +40,9 @@ pub const FREE_HEAD: u64 = 8 * FREE_WORD;
 /// The number of words of the header, `ngx_slab_pool_t`.
 const HEADER_WORDS: u64 = 25;
 
+/// The number of classes, whose heads and statistics stand between the header and the descriptors.
+const CLASSES: u32 = 9;
+
 /// The byte offset of word `w`, as links hold it.
 pub fn byte_offset(w: u64) -> u64
     requires { w ≤ word_limit }
@@ -53,7 +53,7 @@ pub fn byte_offset(w: u64) -> u64
 
 /// The first of the three words of the head of a class's list: slab, next and prev.
 pub fn head_at(class: u32) -> u64
-    requires { class ≤ class_count }
+    requires { class ≤ 9 }
     ensures { result ≡ head_word class }
 {
     HEADER_WORDS + 3 * class as u64
@@ -61,10 +61,10 @@ pub fn head_at(class: u32) -> u64
 
 /// The first of the four words of a class's statistics: total, used, reqs and fails (`ngx_slab_stat_t`).
 pub fn stat_at(class: u32) -> u64
-    requires { class ≤ class_count }
+    requires { class ≤ 9 }
     ensures { result ≡ stat_word class }
 {
-    head_at(CLASS_COUNT) + 4 * class as u64
+    head_at(CLASSES) + 4 * class as u64
 }
 
 /// The first of the three words of a page's descriptor: slab, next and prev (`ngx_slab_page_t`).
@@ -72,5 +72,5 @@ pub fn descriptor_at(page: u64) -> u64
     requires { page ≤ page_limit }
     ensures { result ≡ descriptor_word page }
 {
-    stat_at(CLASS_COUNT) + 3 * page
+    stat_at(CLASSES) + 3 * page
 }
