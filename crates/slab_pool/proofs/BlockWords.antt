@@ -8,16 +8,20 @@ use Rattle.std.proofs.lemmas.Grind.{common_steps}
 use Rattle.zone_region.specs.Words.{Words, word_at, SetsWord}
 use Rattle.slab_model.specs.declared.page.PageState.{PageState}
 use Rattle.slab_model.specs.declared.page.PageState.TheVariants.{Free, First, Later, Class}
+use Rattle.slab_model.specs.declared.shape.Shape.{Shape}
 use Rattle.slab_model.specs.Geometry.{Kind, small, exact, big, kind_of, class_size, blocks_in_page, first_index, start_of, pages_of, page_offset, block_offset}
 use Rattle.slab_model.specs.Numbers.{is_member}
-use Rattle.slab_model.specs.Slab.{Slab, IsSound, IsLive, page_at, live_bytes, page_number, place_in_page, AreUsed}
+use Rattle.zone_region.specs.Members.{In}
+use Rattle.slab_model.specs.State.{Slab, page_at}
+use Rattle.slab_model.specs.Blocks.{IsLive, live_bytes, page_number, place_in_page}
+use Rattle.slab_model.specs.Soundness.{IsSound, AreUsed}
 use Rattle.slab_model.proofs.ClassLemmas.{cuts, zone}
 use Rattle.slab_model.proofs.BlockLemmas.{Lies, in_page, over_pages, lies, page_number-is, place_in_page-is, block_end}
 use Rattle.slab_model.proofs.BlockLaws.{blocks-law}
-use Rattle.slab_model.proofs.StateLemmas.{page_at-in}
+use Rattle.slab_model.proofs.StateLemmas.{used-usable}
+use Rattle.slab_model.proofs.NumberLemmas.{member}
 use Rattle.slab_pages.specs.Places.{Image, bitmap_words, descriptor, descriptor_word}
 use Rattle.slab_pages.specs.SlabLayout.{type_of}
-use Rattle.slab_pages.proofs.FrameLemmas.{class-below}
 use Rattle.slab_pool.specs.Pool.{LaysPool}
 use Rattle.slab_pool.specs.Live.{page_type, class_in, bytes_at, block_words, is_bitmap_word, KeepsPages, GrantsWords, ReturnsWords, SameBlockWords}
 use Rattle.slab_pool.proofs.BitLemmas.{KindAt, at_small, at_exact, at_big, kind_at}
@@ -29,7 +33,7 @@ use Rattle.slab_pool.proofs.DecodeLemmas.{class-type, class_in-class, first-type
 pub record InPage (image : Image) (w page place : ℕ) : Type 0 where
   pub at : 8 * w ≡ page_offset image.shape page + place
   pub fits : place < 4096
-  pub none : page_type image.words page ≡ 3 → bitmap_words (class_in image.words page) ≤ place / 8
+  pub none : page_type image.words page ≡ 3 → bitmap_words image.shape (class_in image.words page) ≤ place / 8
 
 no_bitmap : (image : Image) (w page place : ℕ) → InPage image w page place → is_bitmap_word image w ≡ false
 unfolding is_bitmap_word
@@ -37,10 +41,10 @@ no_bitmap image w page place h =
     let number : page_number image.shape (8 * w) ≡ page = ap (λ n. page_number image.shape n) h.at ∙ page_number-is image.shape page place h.fits in
     let rest : place_in_page image.shape (8 * w) ≡ place = ap (λ n. place_in_page image.shape n) h.at ∙ place_in_page-is image.shape page place h.fits in
     go (page_number image.shape (8 * w)) (place_in_page image.shape (8 * w)) number rest h.none where
-      go : (number where_in : ℕ) → number ≡ page → where_in ≡ place → (page_type image.words page ≡ 3 → bitmap_words (class_in image.words page) ≤ place / 8) → (leb (start_of image.shape) (8 * w) && (ltb number (pages_of image.shape) && (eqb (page_type image.words number) 3 && ltb (where_in / 8) (bitmap_words (class_in image.words number))))) ≡ false
-      go number where_in e f none = subst (λ (n : ℕ). (leb (start_of image.shape) (8 * w) && (ltb n (pages_of image.shape) && (eqb (page_type image.words n) 3 && ltb (where_in / 8) (bitmap_words (class_in image.words n))))) ≡ false) (sym e)
-          (subst (λ (n : ℕ). (leb (start_of image.shape) (8 * w) && (ltb page (pages_of image.shape) && (eqb (page_type image.words page) 3 && ltb (n / 8) (bitmap_words (class_in image.words page))))) ≡ false) (sym f)
-          (tests (leb (start_of image.shape) (8 * w)) (ltb page (pages_of image.shape)) (page_type image.words page) (place / 8) (bitmap_words (class_in image.words page)) none))
+      go : (number where_in : ℕ) → number ≡ page → where_in ≡ place → (page_type image.words page ≡ 3 → bitmap_words image.shape (class_in image.words page) ≤ place / 8) → (leb (start_of image.shape) (8 * w) && (ltb number (pages_of image.shape) && (eqb (page_type image.words number) 3 && ltb (where_in / 8) (bitmap_words image.shape (class_in image.words number))))) ≡ false
+      go number where_in e f none = subst (λ (n : ℕ). (leb (start_of image.shape) (8 * w) && (ltb n (pages_of image.shape) && (eqb (page_type image.words n) 3 && ltb (where_in / 8) (bitmap_words image.shape (class_in image.words n))))) ≡ false) (sym e)
+          (subst (λ (n : ℕ). (leb (start_of image.shape) (8 * w) && (ltb page (pages_of image.shape) && (eqb (page_type image.words page) 3 && ltb (n / 8) (bitmap_words image.shape (class_in image.words page))))) ≡ false) (sym f)
+          (tests (leb (start_of image.shape) (8 * w)) (ltb page (pages_of image.shape)) (page_type image.words page) (place / 8) (bitmap_words image.shape (class_in image.words page)) none))
         where
           tests : (a b : Bool) (type n m : ℕ) → (type ≡ 3 → m ≤ n) → (a && (b && (eqb type 3 && ltb n m))) ≡ false
           tests a b type n m none = elim (cases_eq type 3) [
@@ -49,12 +53,12 @@ no_bitmap image w page place h =
           ]
 
 -- a small class's bitmap lies in blocks that it can't grant
-bitmap_test : ℕ → Bool
+bitmap_test : Shape → ℕ → Bool
 bitmap_test shape class = leb (8 * bitmap_words shape class) (class_size class * first_index shape class)
 
-bitmap_first : (class : ℕ) → class < 3 → 8 * bitmap_words shape class ≤ class_size class * first_index shape class
+bitmap_first : (shape : Shape) (class : ℕ) → class < 3 → 8 * bitmap_words shape class ≤ class_size class * first_index shape class
 unfolding bitmap_test blocks_in_page class_size first_index
-bitmap_first shape class low = let test = agree_below_at bitmap_test (λ _. true) 3 class refl low in grind (arith, common_steps, test)
+bitmap_first shape class low = let test = agree_below_at (bitmap_test shape) (λ _. true) 3 class refl low in grind (arith, common_steps, test)
 
 -- ---- a word of a live block
 
@@ -74,7 +78,7 @@ pub record HasRoom (image : Image) (at bytes : ℕ) : Type 0 where
 pub block_room : (image : Image) (slab : Slab) (at : ℕ) → LaysPool image slab → IsLive slab at → HasRoom image at (live_bytes slab at)
 block_room image slab at p live =
     let l = (blocks-law slab p.sound).1 at live in
-    let start = ap (λ n. start_of n) p.shape_is in
+    let start = ap (λ (n : Shape). start_of n) p.shape_is in
     record {
       even = omega (arith, l.even);
       long = omega (arith, l.words);
@@ -84,28 +88,28 @@ block_room image slab at p live =
 
 block_in_page : (image : Image) (slab : Slab) (at i : ℕ) → LaysPool image slab → HasRoom image at (live_bytes slab at) → Lies slab at → 8 * i + 8 ≤ live_bytes slab at → (page : ℕ) × (place : ℕ) × InPage image (at / 8 + i) page place
 block_in_page image slab at i p room (in_page page class used index is ok there at_is bytes) inside =
-    let c = cuts shape class ok.known in
-    let end = block_end (class_size class) index (blocks_in_page shape class) c.whole (ok.usable index there).1 in
-    let offset = ap (λ n. page_offset n page) p.shape_is in
+    let c = cuts slab.shape class ok.known in
+    let end = block_end (class_size class) index (blocks_in_page slab.shape class) c.whole (used-usable slab.shape class index used ok ((member index used).0 there)).1 in
+    let offset = ap (λ (n : Shape). page_offset n page) p.shape_is in
     (page, class_size class * index + 8 * i, record {
       at = omega (arith, room.even, at_is, offset);
       fits = omega (arith, end, inside, bytes);
       none = λ type.
           let kind = small_type class ok.known (sym (class-type image slab page class used p is) ∙ type) in
-          let first = mul-le-mul_left (class_size class) (ok.usable index there).0 in
-          let map = bitmap_first shape class kind in
-          let same = ap (λ k. bitmap_words k) (class_in-class image slab page class used p is) in
+          let first = mul-le-mul_left (class_size class) (used-usable slab.shape class index used ok ((member index used).0 there)).0 in
+          let map = bitmap_first slab.shape class kind in
+          let same = ap (λ k. bitmap_words image.shape k) (class_in-class image slab page class used p is) ∙ ap (λ (n : Shape). bitmap_words n class) (sym p.shape_is) in
           omega (arith, first, map, same);
     }) where
-      small_type : (class : ℕ) → class < 9 → type_of (kind_of shape class) ≡ 3 → class < 3
-      small_type class known t = elim (kind_at shape class known) [
+      small_type : (class : ℕ) → class < 9 → type_of (kind_of slab.shape class) ≡ 3 → class < 3
+      small_type class known t = elim (kind_at slab.shape class known) [
         | at_small low kind ↦ low
         | at_exact same kind ↦ absurd (omega (arith, sym (ap type_of kind) ∙ t))
         | at_big high kind ↦ absurd (omega (arith, sym (ap type_of kind) ∙ t))
       ]
 block_in_page image slab at i p room (over_pages page count is at_is bytes) inside =
-    let offset = ap (λ n. page_offset n page) p.shape_is in
-    let more = ap (λ n. start_of n) p.shape_is in
+    let offset = ap (λ (n : Shape). page_offset n page) p.shape_is in
+    let more = ap (λ (n : Shape). start_of n) p.shape_is in
     let q : ℕ = page + 8 * i / 4096 in
     (q, 8 * i % 4096, record {
       at = omega (arith, room.even, at_is, offset, more);
@@ -124,9 +128,9 @@ block_word image slab at i p low =
     let room = block_room image slab at p live in
     let inside : 8 * i + 8 ≤ live_bytes slab at = omega (arith, room.long, low) in
     let h = block_in_page image slab at i p room (lies slab at p.sound live) inside in
-    let z = zone slab.shape p.sound.large p.sound.small in
-    let start = ap (λ n. start_of n) p.shape_is in
-    let count = ap (λ n. pages_of n) p.shape_is in
+    let z = zone slab.shape p.sound.limits in
+    let start = ap (λ (n : Shape). start_of n) p.shape_is in
+    let count = ap (λ (n : Shape). pages_of n) p.shape_is in
     record {
       behind = omega (arith, room.behind, room.even);
       low = omega (arith, room.behind, room.even, z.behind, start, count);

@@ -6,8 +6,11 @@ use Rattle.std.proofs.lemmas.Grind.{common_steps}
 use Rattle.zone_region.specs.Words.{Words, word_at, SetsWord}
 use Rattle.slab_model.specs.declared.page.PageState.{PageState}
 use Rattle.slab_model.specs.declared.page.PageState.TheVariants.{Free, First, Later, Class}
+use Rattle.slab_model.specs.declared.shape.Shape.{Shape}
 use Rattle.slab_model.specs.Geometry.{Kind, small, kind_of, blocks_in_page, start_of, pages_of, page_offset}
-use Rattle.slab_model.specs.Slab.{Slab, IsSound, IsLive, page_at, live_bytes, page_number, place_in_page}
+use Rattle.slab_model.specs.State.{Slab, page_at}
+use Rattle.slab_model.specs.Blocks.{IsLive, live_bytes, page_number, place_in_page}
+use Rattle.slab_model.specs.Soundness.{IsSound}
 use Rattle.slab_model.proofs.ClassLemmas.{zone}
 use Rattle.slab_model.proofs.BlockLemmas.{page_number-is, place_in_page-is, offset_is}
 use Rattle.slab_model.proofs.BlockLaws.{blocks-law}
@@ -15,7 +18,8 @@ use Rattle.slab_pages.specs.Places.{Image, bitmap_words, descriptor, descriptor_
 use Rattle.slab_pages.specs.Frames.{SameFrom, SameLaid}
 use Rattle.slab_pages.specs.SlabLayout.{type_of}
 use Rattle.slab_pages.proofs.PlaceLemmas.{descriptor-word}
-use Rattle.slab_pages.proofs.FrameLemmas.{class-below, LaysSlab-kept}
+use Rattle.slab_model.proofs.SoundLemmas.{class_page-in}
+use Rattle.slab_pages.proofs.FrameLemmas.{LaysSlab-kept}
 use Rattle.slab_pool.specs.Pool.{LaysPool}
 use Rattle.slab_pool.specs.Live.{page_type, class_in, bytes_at, block_words, is_bitmap_word, is_layout_word, layout_words, rest_of, KeepsPages}
 use Rattle.slab_pool.proofs.DecodeLemmas.{class-type, class_in-class}
@@ -58,41 +62,41 @@ pub same-bitmap : (old new : Image) (w : ℕ) → SameStart old new → is_bitma
 unfolding is_bitmap_word
 same-bitmap old new w s =
     let bytes = s.shape_is in
-    ap (λ n. leb (start_of n) (8 * w) && (ltb (page_number n (8 * w)) (pages_of n) && (eqb (page_type new.words (page_number n (8 * w))) 3 && ltb (place_in_page n (8 * w) / 8) (bitmap_words (class_in new.words (page_number n (8 * w))))))) bytes
+    ap (λ (n : Shape). leb (start_of n) (8 * w) && (ltb (page_number n (8 * w)) (pages_of n) && (eqb (page_type new.words (page_number n (8 * w))) 3 && ltb (place_in_page n (8 * w) / 8) (bitmap_words n (class_in new.words (page_number n (8 * w))))))) bytes
     ∙ elim (cases_lt (page_number old.shape (8 * w)) (pages_of old.shape)) [
       | inl within ↦ let t = same-page_type old new (page_number old.shape (8 * w)) s within in let c = same-class_in old new (page_number old.shape (8 * w)) s within in inside (leb (start_of old.shape) (8 * w)) (ltb (page_number old.shape (8 * w)) (pages_of old.shape)) _ _ (place_in_page old.shape (8 * w) / 8) _ _ t c
       | inr past ↦ outside (leb (start_of old.shape) (8 * w)) (page_number old.shape (8 * w)) (pages_of old.shape) _ _ past
     ] where
-      inside : (a b : Bool) (t u place c d : ℕ) → u ≡ t → d ≡ c → (a && (b && (eqb u 3 && ltb place (bitmap_words d)))) ≡ (a && (b && (eqb t 3 && ltb place (bitmap_words shape c))))
+      inside : (a b : Bool) (t u place c d : ℕ) → u ≡ t → d ≡ c → (a && (b && (eqb u 3 && ltb place (bitmap_words old.shape d)))) ≡ (a && (b && (eqb t 3 && ltb place (bitmap_words old.shape c))))
       inside a b t u place c d e f = cc
 
       outside : (a : Bool) (number count : ℕ) (x y : Bool) → count ≤ number → (a && (ltb number count && x)) ≡ (a && (ltb number count && y))
       outside a number count x y past = grind (arith, common_steps)
 
 same-layout : (old new : Image) (w : ℕ) → SameStart old new → is_layout_word new w ≡ is_layout_word old w
-same-layout old new w s = let b = same-bitmap old new w s in let n = ap (λ k. start_of k) s.shape_is in both (start_of old.shape) (start_of new.shape) (is_bitmap_word old w) (is_bitmap_word new w) n b where
+same-layout old new w s = let b = same-bitmap old new w s in let n = ap (λ (k : Shape). start_of k) s.shape_is in both (start_of old.shape) (start_of new.shape) (is_bitmap_word old w) (is_bitmap_word new w) n b where
   both : (a b : ℕ) (x y : Bool) → b ≡ a → y ≡ x → (ltb (8 * w) b || y) ≡ (ltb (8 * w) a || x)
   both a b x y e f = cc
 
 -- a word of the bitmap of a small class's page belongs to it
-bitmap-belongs : (image : Image) (slab : Slab) (page class : ℕ) (used : List ℕ) (w : ℕ) → LaysPool image slab → page_at slab.pages page ≡ Class class used → kind_of shape class ≡ small → page_word slab.shape page ≤ w → w < page_word slab.shape page + bitmap_words shape class → bitmap_words shape class ≤ 8 → is_layout_word image w ≡ true
+bitmap-belongs : (image : Image) (slab : Slab) (page class : ℕ) (used : List ℕ) (w : ℕ) → LaysPool image slab → page_at slab.pages page ≡ Class class used → kind_of slab.shape class ≡ small → page_word slab.shape page ≤ w → w < page_word slab.shape page + bitmap_words slab.shape class → bitmap_words slab.shape class ≤ 8 → is_layout_word image w ≡ true
 unfolding is_bitmap_word
 bitmap-belongs image slab page class used w p is kind low high few =
-    let z = zone slab.shape p.sound.large p.sound.small in
-    let offset : page_offset image.shape page ≡ page_offset slab.shape page = ap (λ n. page_offset n page) (sym p.shape_is) in
+    let z = zone slab.shape p.sound.limits in
+    let offset : page_offset image.shape page ≡ page_offset slab.shape page = ap (λ (n : Shape). page_offset n page) (sym p.shape_is) in
     let at : 8 * w ≡ page_offset image.shape page + (8 * w - page_offset image.shape page) = omega (arith, offset, z.eights, low) in
     let fits : 8 * w - page_offset image.shape page < 4096 = omega (arith, offset, z.eights, low, high, few) in
     let number : page_number image.shape (8 * w) ≡ page = ap (λ n. page_number image.shape n) at ∙ page_number-is image.shape page (8 * w - page_offset image.shape page) fits in
     let place : place_in_page image.shape (8 * w) ≡ 8 * w - page_offset image.shape page = ap (λ n. place_in_page image.shape n) at ∙ place_in_page-is image.shape page (8 * w - page_offset image.shape page) fits in
     let behind : start_of image.shape ≤ 8 * w = omega (arith, at) in
-    let within : page < pages_of image.shape = omega (arith, class-below slab page class used p.sound is, ap (λ n. pages_of n) p.shape_is) in
+    let within : page < pages_of image.shape = omega (arith, class_page-in slab class page used p.sound is, ap (λ (n : Shape). pages_of n) p.shape_is) in
     let type : page_type image.words page ≡ 3 = class-type image slab page class used p is ∙ ap type_of kind in
-    let inside : (8 * w - page_offset image.shape page) / 8 < bitmap_words shape class = omega (arith, offset, z.eights, low, high) in
+    let inside : (8 * w - page_offset image.shape page) / 8 < bitmap_words image.shape class = omega (arith, offset, z.eights, low, high, ap (λ (n : Shape). bitmap_words n class) p.shape_is) in
     tests (page_number image.shape (8 * w)) (place_in_page image.shape (8 * w)) number place behind within type (class_in-class image slab page class used p is) inside where
-      tests : (number place : ℕ) → number ≡ page → place ≡ 8 * w - page_offset image.shape page → start_of image.shape ≤ 8 * w → page < pages_of image.shape → page_type image.words page ≡ 3 → class_in image.words page ≡ class → (8 * w - page_offset image.shape page) / 8 < bitmap_words shape class → (ltb (8 * w) (start_of image.shape) || (leb (start_of image.shape) (8 * w) && (ltb number (pages_of image.shape) && (eqb (page_type image.words number) 3 && ltb (place / 8) (bitmap_words (class_in image.words number)))))) ≡ true
+      tests : (number place : ℕ) → number ≡ page → place ≡ 8 * w - page_offset image.shape page → start_of image.shape ≤ 8 * w → page < pages_of image.shape → page_type image.words page ≡ 3 → class_in image.words page ≡ class → (8 * w - page_offset image.shape page) / 8 < bitmap_words image.shape class → (ltb (8 * w) (start_of image.shape) || (leb (start_of image.shape) (8 * w) && (ltb number (pages_of image.shape) && (eqb (page_type image.words number) 3 && ltb (place / 8) (bitmap_words image.shape (class_in image.words number)))))) ≡ true
       tests number place e f behind within type class_is inside =
-          subst (λ (n : ℕ). (ltb (8 * w) (start_of image.shape) || (leb (start_of image.shape) (8 * w) && (ltb n (pages_of image.shape) && (eqb (page_type image.words n) 3 && ltb (place / 8) (bitmap_words (class_in image.words n)))))) ≡ true) (sym e)
-          (plain (8 * w) (start_of image.shape) page (pages_of image.shape) (page_type image.words page) (place / 8) (bitmap_words (class_in image.words page)) behind within type (omega (arith, inside, ap (λ n. n / 8) f, ap (λ n. bitmap_words n) class_is)))
+          subst (λ (n : ℕ). (ltb (8 * w) (start_of image.shape) || (leb (start_of image.shape) (8 * w) && (ltb n (pages_of image.shape) && (eqb (page_type image.words n) 3 && ltb (place / 8) (bitmap_words image.shape (class_in image.words n)))))) ≡ true) (sym e)
+          (plain (8 * w) (start_of image.shape) page (pages_of image.shape) (page_type image.words page) (place / 8) (bitmap_words image.shape (class_in image.words page)) behind within type (omega (arith, inside, ap (λ n. n / 8) f, ap (λ n. bitmap_words image.shape n) class_is)))
         where
           plain : (at start page count type place few : ℕ) → start ≤ at → page < count → type ≡ 3 → place < few → (ltb at start || (leb start at && (ltb page count && (eqb type 3 && ltb place few)))) ≡ true
           plain at start page count type place few a b c d = grind (arith, common_steps)
@@ -108,13 +112,18 @@ pub record SameRest (old new : Image) : Type 0 where
 pub same-rest : (old new : Image) → rest_of new ≡ rest_of old → SameRest old new
 unfolding rest_of
 same-rest old new e =
-    let bytes : new.shape ≡ old.shape = cc in
+    let bytes : new.shape.bytes ≡ old.shape.bytes = cc in
+    let shift : new.shape.page_shift ≡ old.shape.page_shift = cc in
     let words : layout_words new 0 new.words ≡ layout_words old 0 old.words = cc in
     record {
-      shape_is = bytes;
+      shape_is = both new.shape old.shape bytes shift;
       same_length = sym (length-layout new 0 new.words) ∙ ap length words ∙ length-layout old 0 old.words;
       words = λ w. sym (get-layout_all new w) ∙ ap (λ vs. get_or vs w 0) words ∙ get-layout_all old w;
-    }
+    } where
+      both : (a b : Shape) → a.bytes ≡ b.bytes → a.page_shift ≡ b.page_shift → a ≡ b
+      both a b bytes shift =
+          let f : ℕ → ℕ → Shape = λ m n. record { bytes = m; page_shift = n } in
+          ap (λ m. f m a.page_shift) bytes ∙ ap (λ n. f b.bytes n) shift
 
 start-belongs : (image : Image) (w : ℕ) → 8 * w < start_of image.shape → is_layout_word image w ≡ true
 start-belongs image w low = grind (arith, common_steps)
@@ -126,16 +135,16 @@ same-start : (old new : Image) (slab : Slab) → LaysPool old slab → SameRest 
 same-start old new slab p r = record {
   shape_is = r.shape_is;
   low = λ w low.
-      let z = zone slab.shape p.sound.large p.sound.small in
-      let start = ap (λ n. start_of n) p.shape_is in
-      let count = ap (λ n. pages_of n) p.shape_is in
+      let z = zone slab.shape p.sound.limits in
+      let start = ap (λ (n : Shape). start_of n) p.shape_is in
+      let count = ap (λ (n : Shape). pages_of n) p.shape_is in
       let before : 8 * w < start_of old.shape = omega (arith, low, z.behind, start, count) in
-      let after : 8 * w < start_of new.shape = omega (arith, before, ap (λ n. start_of n) r.shape_is) in
+      let after : 8 * w < start_of new.shape = omega (arith, before, ap (λ (n : Shape). start_of n) r.shape_is) in
       both_belong (is_layout_word new w) (is_layout_word old w) _ _ (start-belongs new w after) (start-belongs old w before) (r.words w);
 }
 
 -- a bitmap has at most eight words
-few_words : (class : ℕ) → class < 9 → bitmap_words shape class ≤ 8
+few_words : (shape : Shape) (class : ℕ) → class < 9 → bitmap_words shape class ≤ 8
 few_words shape class known = (numbers shape class known).words
 
 -- with the same rest, each slab that was laid out still is, and the header's words `log_ctx` and `data` are as before
@@ -148,9 +157,9 @@ rest-laid old new slab e p =
       sound = p.sound;
       laid = LaysSlab-kept slab old.words new.words p.sound (record {
         same_length = r.same_length;
-        low = λ w low _ _. s.low w (omega (arith, low, ap (λ n. pages_of n) p.shape_is));
+        low = λ w low _ _. s.low w (omega (arith, low, ap (λ (n : Shape). pages_of n) p.shape_is));
         bitmaps = λ page class used is kind w low high.
-            let here = bitmap-belongs old slab page class used w p is kind low high (few_words shape class (p.sound.used page class used is).known) in
+            let here = bitmap-belongs old slab page class used w p is kind low high (few_words slab.shape class (p.sound.used page class used is).known) in
             both_belong (is_layout_word new w) (is_layout_word old w) _ _ (same-layout old new w s ∙ here) here (r.words w);
       }) p.laid;
     }
@@ -166,9 +175,9 @@ rest-set old new slab at i v p low is =
     let b = block_word old slab at i p low in
     let bytes : new.shape ≡ old.shape = ap (λ (m : Image). m.shape) is in
     let words : new.words ≡ set old.words (at / 8 + i) v = ap (λ (m : Image). m.words) is in
-    let z = zone slab.shape p.sound.large p.sound.small in
+    let z = zone slab.shape p.sound.limits in
     let s : SameStart old new = record { shape_is = bytes; low = λ w l. other words w (λ e. omega (arith, e, l, b.low)) } in
-    ap (λ n. n ∷ layout_words new 0 new.words) bytes ∙ ap (λ vs. old.shape ∷ vs)
+    ap (λ (n : Shape). n.bytes ∷ n.page_shift ∷ layout_words new 0 new.words) bytes ∙ ap (λ vs. old.shape.bytes ∷ old.shape.page_shift ∷ vs)
     (same_lists (layout_words new 0 new.words) (layout_words old 0 old.words)
     (length-layout new 0 new.words ∙ ap length words ∙ length-set old.words (at / 8 + i) v ∙ sym (length-layout old 0 old.words))
     (λ k d l.

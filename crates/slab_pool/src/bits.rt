@@ -1,12 +1,17 @@
 ghost use Rattle.std.specs.Prelude.{◌<◌};
 ghost use Rattle.slab_pool.specs.WordBits.{IsLowestClear};
 
-use crate::places::{descriptor_of, page_word, slab};
-use slab_model::geometry::{blocks_in_page, first_index};
+use crate::places::{descriptor_of, slab};
+use slab_model::{Shape, blocks_in_page, first_index};
 use slab_pages::Pages;
 
 /// The class of 64 blocks in a page: the classes before it are small, those behind it big.
 pub(crate) const EXACT: u32 = 3;
+
+// The first word of a page.
+fn page_word(pages: &Pages, page: u64) -> u64 {
+    (pages.geometry().start + 4096 * page) / 8
+}
 
 /// The words that hold the bits of a page of the class.
 fn bit_words(class: u32) -> u64 {
@@ -52,7 +57,7 @@ pub(crate) fn first_unused(pages: &Pages, class: u32, page: u64, from: u64) -> u
             return 64 * j + k;
         }
     }
-    blocks_in_page(class)
+    blocks_in_page(pages.geometry().shape(), class)
 }
 
 /// The block of this index is used.
@@ -73,14 +78,14 @@ pub(crate) fn clear(pages: &mut Pages, class: u32, page: u64, index: u64) {
 }
 
 /// Word `j` of the bits of a page without a used index: those of the bits' own blocks are set.
-fn own_bits(class: u32, j: u64) -> u64 {
-    if j == 0 { (1 << first_index(class)) - 1 } else { 0 }
+fn own_bits(shape: Shape, class: u32, j: u64) -> u64 {
+    if j == 0 { (1 << first_index(shape, class)) - 1 } else { 0 }
 }
 
 /// No index of the page is used.
 pub(crate) fn is_unused(pages: &Pages, class: u32, page: u64) -> bool {
     for j in 0..bit_words(class) {
-        if bits(pages, class, page, j) != own_bits(class, j) {
+        if bits(pages, class, page, j) != own_bits(pages.geometry().shape(), class, j) {
             return false;
         }
     }
@@ -93,6 +98,6 @@ pub(crate) fn begin_bits(pages: &mut Pages, class: u32, page: u64) {
         pages.set_word(descriptor_of(page) / 8, 3 + class as u64);
     }
     for j in 0..bit_words(class) {
-        set_bits(pages, class, page, j, own_bits(class, j));
+        set_bits(pages, class, page, j, own_bits(pages.geometry().shape(), class, j));
     }
 }

@@ -1,11 +1,8 @@
 use crate::bits::{begin_bits, first_unused, mark};
 use crate::lists::{first_page, push, type_of, unlink};
 use crate::places::descriptor_of;
-use crate::stats::{set_stat, stat};
-use slab_model::counts::{count_fail, count_grant};
-use slab_model::geometry::{
-    blocks_in_page, class_of, class_size, first_index, pages_for, usable_blocks,
-};
+use crate::stats::{count_fail, count_grant};
+use slab_model::{blocks_in_page, class_of, class_size, first_index, pages_for, usable_blocks};
 use slab_pages::Pages;
 use zone_region::Block;
 
@@ -18,13 +15,13 @@ fn block_at(pages: &Pages, class: u32, page: u64, index: u64) -> Block {
 
 /// Grants the lowest free index of the first page of the class's list.
 fn grant_in_page(pages: &mut Pages, class: u32, page: u64) -> Block {
-    let index = first_unused(pages, class, page, first_index(class));
-    if first_unused(pages, class, page, index + 1) == blocks_in_page(class) {
+    let shape = pages.geometry().shape();
+    let index = first_unused(pages, class, page, first_index(shape, class));
+    if first_unused(pages, class, page, index + 1) == blocks_in_page(shape, class) {
         unlink(pages, class, page);
     }
     mark(pages, class, page, index);
-    let counted = count_grant(stat(pages, class), 0);
-    set_stat(pages, class, counted);
+    count_grant(pages, class, 0);
     block_at(pages, class, page, index)
 }
 
@@ -38,16 +35,15 @@ fn begin_page(pages: &mut Pages, class: u32, page: u64) {
 /// Grants the first block of a free page, which becomes the class's only listed page.
 fn grant_in_new_page(pages: &mut Pages, class: u32) -> Option<Block> {
     let Some(page) = pages.take(1) else {
-        let counted = count_fail(stat(pages, class));
-        set_stat(pages, class, counted);
+        count_fail(pages, class);
         return None;
     };
-    let index = first_index(class);
+    let shape = pages.geometry().shape();
+    let index = first_index(shape, class);
     begin_page(pages, class, page.number);
     mark(pages, class, page.number, index);
     push(pages, class, page.number);
-    let counted = count_grant(stat(pages, class), usable_blocks(class));
-    set_stat(pages, class, counted);
+    count_grant(pages, class, usable_blocks(shape, class));
     Some(block_at(pages, class, page.number, index))
 }
 
@@ -69,8 +65,9 @@ fn grant_run(pages: &mut Pages, count: u64) -> Option<Block> {
 
 /// Grants a block of at least `size` bytes, if there is one.
 pub(crate) fn grant(pages: &mut Pages, size: u64) -> Option<Block> {
-    match class_of(size) {
+    let shape = pages.geometry().shape();
+    match class_of(shape, size) {
         Some(class) => grant_class(pages, class),
-        None => grant_run(pages, pages_for(size)),
+        None => grant_run(pages, pages_for(shape, size)),
     }
 }

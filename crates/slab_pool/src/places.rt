@@ -1,41 +1,56 @@
+ghost use Rattle.std.specs.Prelude.{◌≡◌, ℕ, ◌+◌, ◌*◌, ◌/◌, ◌<◌, ◌≤◌, length};
+ghost use Rattle.slab_pages.specs.Places.{class_head, descriptor, page_limit, slab_at, next_at, prev_at};
+
+use slab_model::{DESCRIPTOR_SIZE, PREFIX_SIZE};
 use slab_pages::Pages;
+use slab_pages::places::{byte_offset, descriptor_at, head_at};
 
-/// Byte offset of the head of a class's list.
-pub(crate) fn head_of(class: u32) -> u64 {
-    200 + 24 * class as u64
+// Byte offset of the head of a class's list, as links hold it.
+pub(crate) fn head_of(class: u32) -> u64
+    requires { class < 9 }
+    ensures { result ≡ class_head class }
+{
+    byte_offset(head_at(class))
 }
 
-/// Byte offset of a page's descriptor.
-pub(crate) fn descriptor_of(page: u64) -> u64 {
-    704 + 24 * page
+// Byte offset of a page's descriptor.
+#[tactic(auto, unfolding(slab_pages::specs::Places::descriptor))]
+pub(crate) fn descriptor_of(page: u64) -> u64
+    requires { page ≤ page_limit }
+    ensures { result ≡ descriptor page }
+{
+    byte_offset(descriptor_at(page))
 }
 
-/// The page whose descriptor is at this byte offset.
-pub(crate) fn page_of(o: u64) -> u64 {
-    (o - 704) / 24
+// The page whose descriptor is at this byte offset.
+#[tactic(auto, unfolding(slab_pages::specs::Places::descriptor))]
+pub(crate) fn page_of(o: u64) -> u64
+    requires { ((page : ℕ) × (o ≡ descriptor page)) }
+    ensures { (page : ℕ) → o ≡ descriptor page → result ≡ page }
+{
+    (o - PREFIX_SIZE) / DESCRIPTOR_SIZE
 }
 
-/// The first of the four words of a class's statistics.
-pub(crate) fn stat_word_of(class: u32) -> u64 {
-    52 + 4 * class as u64
-}
-
-/// The first word of a page.
-pub(crate) fn page_word(pages: &Pages, page: u64) -> u64 {
-    (pages.geometry().start + 4096 * page) / 8
-}
-
-/// The slab word of the descriptor at byte offset `o`.
-pub(crate) fn slab(pages: &Pages, o: u64) -> u64 {
+// The slab word of the descriptor at byte offset `o`.
+pub(crate) fn slab(pages: &Pages, o: u64) -> u64
+    requires { o / 8 < length pages.now.words }
+    ensures { result ≡ slab_at pages.now.words o }
+{
     pages.word(o / 8)
 }
 
-/// Its next word.
-pub(crate) fn next(pages: &Pages, o: u64) -> u64 {
+// Its next word.
+pub(crate) fn next(pages: &Pages, o: u64) -> u64
+    requires { o / 8 + 1 < length pages.now.words }
+    ensures { result ≡ next_at pages.now.words o }
+{
     pages.word(o / 8 + 1)
 }
 
-/// Its prev word.
-pub(crate) fn prev(pages: &Pages, o: u64) -> u64 {
+// Its prev word.
+pub(crate) fn prev(pages: &Pages, o: u64) -> u64
+    requires { o / 8 + 2 < length pages.now.words }
+    ensures { result ≡ prev_at pages.now.words o }
+{
     pages.word(o / 8 + 2)
 }

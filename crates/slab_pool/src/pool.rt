@@ -2,12 +2,11 @@ use crate::fault::FreeFault;
 use crate::grants::grant;
 use crate::returns::{give_back, refusal};
 use crate::stats::stat;
-use slab_model::stat::Stat;
+use slab_model::Stat;
 use slab_pages::{Geometry, Pages};
 use std::alloc::Global;
-use std::sync::ledger::Ledger;
 use zone_outside::NoMemory;
-use zone_region::{Block, Blocks, Steps};
+use zone_region::Block;
 
 #[derive(Drop)]
 pub struct Pool {

@@ -2,16 +2,14 @@ use crate::bits::{EXACT, clear, is_unused, is_used};
 use crate::fault::FreeFault;
 use crate::lists::{push, unlink};
 use crate::places::{descriptor_of, next, prev, slab};
-use crate::stats::{set_stat, stat};
-use slab_model::counts::count_return;
-use slab_model::geometry::{class_size, first_index, usable_blocks};
+use crate::stats::count_return;
+use slab_model::{class_size, first_index, usable_blocks};
 use slab_pages::{Page, Pages};
 
 /// Gives the last block of a page of the class back, and the page with it.
 fn give_last(pages: &mut Pages, class: u32, page: u64) {
     unlink(pages, class, page);
-    let counted = count_return(stat(pages, class), usable_blocks(class));
-    set_stat(pages, class, counted);
+    count_return(pages, class, usable_blocks(pages.geometry().shape(), class));
     pages.put(Page { number: page }, 1);
 }
 
@@ -26,8 +24,7 @@ fn give_in_page(pages: &mut Pages, class: u32, page: u64, index: u64) {
     if was_full {
         push(pages, class, page);
     }
-    let counted = count_return(stat(pages, class), 0);
-    set_stat(pages, class, counted);
+    count_return(pages, class, 0);
 }
 
 /// Gives a used run back.
@@ -60,7 +57,7 @@ pub(crate) fn give_back(pages: &mut Pages, at: u64) {
 fn refusal_in_class(pages: &Pages, class: u32, page: u64, place: u64) -> Option<FreeFault> {
     let size = class_size(class);
     let index = place / size;
-    if place % size != 0 || index < first_index(class) {
+    if place % size != 0 || index < first_index(pages.geometry().shape(), class) {
         return Some(FreeFault::WrongChunk);
     }
     if !is_used(pages, class, page, index) {

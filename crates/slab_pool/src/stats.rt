@@ -1,10 +1,10 @@
-use crate::places::stat_word_of;
-use slab_model::stat::Stat;
+use slab_model::Stat;
 use slab_pages::Pages;
+use slab_pages::places::stat_at;
 
-/// The statistics of a class.
+// The statistics of a class.
 pub(crate) fn stat(pages: &Pages, class: u32) -> Stat {
-    let w = stat_word_of(class);
+    let w = stat_at(class);
     Stat {
         total: pages.word(w),
         used: pages.word(w + 1),
@@ -13,11 +13,47 @@ pub(crate) fn stat(pages: &Pages, class: u32) -> Stat {
     }
 }
 
-/// Writes the statistics of a class.
-pub(crate) fn set_stat(pages: &mut Pages, class: u32, stat: Stat) {
-    let w = stat_word_of(class);
+// Writes the statistics of a class.
+fn set_stat(pages: &mut Pages, class: u32, stat: Stat) {
+    let w = stat_at(class);
     pages.set_word(w, stat.total);
     pages.set_word(w + 1, stat.used);
     pages.set_word(w + 2, stat.reqs);
     pages.set_word(w + 3, stat.fails);
+}
+
+// Counts a request that was given a block, after which the class can grant `more` blocks more.
+pub(crate) fn count_grant(pages: &mut Pages, class: u32, more: u64) {
+    let s = stat(pages, class);
+    let counted = Stat {
+        total: s.total + more,
+        used: s.used + 1,
+        reqs: s.reqs.saturating_add(1),
+        fails: s.fails,
+    };
+    set_stat(pages, class, counted);
+}
+
+// Counts a request that was given no block.
+pub(crate) fn count_fail(pages: &mut Pages, class: u32) {
+    let s = stat(pages, class);
+    let counted = Stat {
+        total: s.total,
+        used: s.used,
+        reqs: s.reqs.saturating_add(1),
+        fails: s.fails.saturating_add(1),
+    };
+    set_stat(pages, class, counted);
+}
+
+// Counts a block that came back, after which the class can grant `less` blocks less.
+pub(crate) fn count_return(pages: &mut Pages, class: u32, less: u64) {
+    let s = stat(pages, class);
+    let counted = Stat {
+        total: s.total - less,
+        used: s.used - 1,
+        reqs: s.reqs,
+        fails: s.fails,
+    };
+    set_stat(pages, class, counted);
 }

@@ -1,6 +1,6 @@
 use crate::fault::FreeFault;
 use crate::pool::Pool;
-use slab_model::plain::PlainSlab;
+use slab_model::PlainSlab;
 use slab_pages::Geometry;
 use std::alloc::Global;
 use std::process::Abort;
