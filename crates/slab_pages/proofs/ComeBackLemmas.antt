@@ -22,23 +22,37 @@ eight : (page : ℕ) → descriptor page % 8 ≡ 0
 unfolding descriptor
 eight page = omega arith
 
--- a link with a class's type isn't one of whole pages
-typed : (k : Kind) (n : ℕ) → n % 8 ≡ 0 → (n + type_of k) % 4 ≢ 0
-typed small n h = λ e. omega (arith, h, e)
-typed exact n h = λ e. omega (arith, h, e)
-typed big n h = λ e. omega (arith, h, e)
+-- a link tells the type that is added to it
+typed : (k : Kind) (n : ℕ) → n % 8 ≡ 0 → (n + type_of k) % 4 ≡ type_of k
+typed small n h = omega (arith, h)
+typed exact n h = omega (arith, h)
+typed big n h = omega (arith, h)
 
--- nor is the type alone
-plain : (k : Kind) → type_of k % 4 ≢ 0
-plain small = λ e. omega (arith, e)
-plain exact = λ e. omega (arith, e)
-plain big = λ e. omega (arith, e)
+-- and so does the type alone
+plain : (k : Kind) → type_of k % 4 ≡ type_of k
+plain small = omega arith
+plain exact = omega arith
+plain big = omega arith
+
+-- no class's pages have the type of whole pages
+pub classed : (k : Kind) → type_of k ≢ 0
+classed small = λ e. omega (arith, e)
+classed exact = λ e. omega (arith, e)
+classed big = λ e. omega (arith, e)
 
 -- a page in a class's list has its type
-listed : (words : List ℕ) (shape : Shape) (class o page : ℕ) (pages : List ℕ) → o % 8 ≡ 0 → LaysPages words shape class o pages → In page pages → prev_at words (descriptor page) % 4 ≢ 0
+listed : (words : List ℕ) (shape : Shape) (class o page : ℕ) (pages : List ℕ) → o % 8 ≡ 0 → LaysPages words shape class o pages → In page pages → prev_at words (descriptor page) % 4 ≡ type_of (kind_of shape class)
 listed words shape class o page [] e h m = absurd m
-listed words shape class o page (q ∷ qs) e h (inl same) = λ z. typed (kind_of shape class) o e (ap (λ n. n % 4) (sym (ap (λ n. prev_at words (descriptor n)) same ∙ h.1)) ∙ z)
+listed words shape class o page (q ∷ qs) e h (inl same) = ap (λ n. n % 4) (ap (λ n. prev_at words (descriptor n)) same ∙ h.1) ∙ typed (kind_of shape class) o e
 listed words shape class o page (q ∷ qs) e h (inr other) = listed words shape class (descriptor q) page qs (eight q) h.2 other
+
+-- and so has a full one
+pub class-type : (words : List ℕ) (slab : Slab) (page class : ℕ) (used : List ℕ) → IsSound slab → LaysSlab words slab → page_at slab.pages page ≡ Class class used → prev_at words (descriptor page) % 4 ≡ type_of (kind_of slab.shape class)
+class-type words slab page class used s l is = elim (cases_Bool (is_full slab.shape class used)) [
+  | inl full ↦ ap (λ n. n % 4) ((l.classes page class used is).prev_if_full full) ∙ plain (kind_of slab.shape class)
+  | inr room ↦ let known = (s.used page class used is).known in listed words slab.shape class (class_head class) page (list_of slab class) (omega arith) (l.lists class known).linked
+      (((s.lists class known).just page).1 (ap (has_room slab.shape class) is ∙ has_room-own slab.shape class used ∙ ap not room))
+]
 
 -- a page that isn't free has the descriptor of one
 pub busy : (words : List ℕ) (slab : Slab) (page : ℕ) → IsSound slab → LaysSlab words slab → page < pages_in slab → is_covered page slab.runs ≡ false → IsBusy words page
@@ -49,11 +63,7 @@ busy words slab page s l below free = go (page_at slab.pages page) refl where
     wrong h = cc
   go (First n) is = let h = l.used_runs page n is in inr (h.first.next_is, λ e. omega (arith, sym h.first.slab_is ∙ e))
   go Later is = let b = s.used_runs.belongs page is in let h = (l.used_runs b.0 b.1 b.2).later page b.3 b.4 in inr (h.next_is, λ e. omega (arith, sym h.slab_is ∙ e))
-  go (Class class used) is = elim (cases_Bool (is_full slab.shape class used)) [
-    | inl full ↦ inl (λ z. plain (kind_of slab.shape class) (ap (λ n. n % 4) (sym ((l.classes page class used is).prev_if_full full)) ∙ z))
-    | inr room ↦ let known = (s.used page class used is).known in inl (listed words slab.shape class (class_head class) page (list_of slab class) (omega arith) (l.lists class known).linked
-        (((s.lists class known).just page).1 (ap (has_room slab.shape class) is ∙ has_room-own slab.shape class used ∙ ap not room)))
-  ]
+  go (Class class used) is = inl (λ z. classed (kind_of slab.shape class) (sym (class-type words slab page class used s l is) ∙ z))
 
 -- a used run can come back
 pub run-back : (words : List ℕ) (slab : Slab) (page n : ℕ) → IsSound slab → LaysSlab words slab → page_at slab.pages page ≡ First n → CanComeBack (pages_in slab) words slab.runs (record { first = page; pages = n })

@@ -14,3 +14,4 @@ pub mod ComeBackLemmas
 pub mod SetLemmas
 pub mod FrameLemmas
 pub mod TakeLemmas
+pub mod UniqueLemmas
