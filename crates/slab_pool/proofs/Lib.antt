@@ -5,3 +5,5 @@ pub mod BitLemmas
 pub mod DecodeLemmas
 pub mod BlockWords
 pub mod RestLemmas
+pub mod RunLemmas
+pub mod PoolLemmas

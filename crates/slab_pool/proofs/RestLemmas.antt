@@ -79,7 +79,7 @@ same-layout old new w s = let b = same-bitmap old new w s in let n = ap (λ (k :
   both a b x y e f = cc
 
 -- a word of the bitmap of a small class's page belongs to it
-bitmap-belongs : (image : Image) (slab : Slab) (page class : ℕ) (used : List ℕ) (w : ℕ) → LaysPool image slab → page_at slab.pages page ≡ Class class used → kind_of slab.shape class ≡ small → page_word slab.shape page ≤ w → w < page_word slab.shape page + bitmap_words slab.shape class → bitmap_words slab.shape class ≤ 8 → is_layout_word image w ≡ true
+pub bitmap-belongs : (image : Image) (slab : Slab) (page class : ℕ) (used : List ℕ) (w : ℕ) → LaysPool image slab → page_at slab.pages page ≡ Class class used → kind_of slab.shape class ≡ small → page_word slab.shape page ≤ w → w < page_word slab.shape page + bitmap_words slab.shape class → bitmap_words slab.shape class ≤ 8 → is_layout_word image w ≡ true
 unfolding is_bitmap_word
 bitmap-belongs image slab page class used w p is kind low high few =
     let z = zone slab.shape p.sound.limits in
@@ -144,7 +144,7 @@ same-start old new slab p r = record {
 }
 
 -- a bitmap has at most eight words
-few_words : (shape : Shape) (class : ℕ) → class < 9 → bitmap_words shape class ≤ 8
+pub few_words : (shape : Shape) (class : ℕ) → class < 9 → bitmap_words shape class ≤ 8
 few_words shape class known = (numbers shape class known).words
 
 -- with the same rest, each slab that was laid out still is, and the header's words `log_ctx` and `data` are as before

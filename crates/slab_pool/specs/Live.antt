@@ -1,10 +1,11 @@
 -- The live blocks of a pool and their words, as descriptors and bits tell them.
-use Rattle.std.specs.Prelude.{ℕ, ◌≡◌, ◌+◌, ◌-◌, ◌*◌, ◌/◌, ◌%◌, ◌^◌, ◌≤◌, suc, Bool, false, not, ◌&&◌, ◌||◌, nat_eq, nat_lt, nat_le, List, [], ◌∷◌, length, slice_index, slice_range, if◌then◌else◌}
+use Rattle.std.specs.Prelude.{ℕ, ◌≡◌, ◌+◌, ◌-◌, ◌*◌, ◌/◌, ◌%◌, ◌^◌, ◌<◌, ◌≤◌, ◌⊎◌, suc, Bool, false, not, ◌&&◌, ◌||◌, nat_eq, nat_lt, nat_le, List, [], ◌∷◌, length, slice_index, slice_range, if◌then◌else◌}
 use Rattle.std.specs.Int.{bit_at}
 use Rattle.zone_region.specs.Words.{Words}
 use Rattle.slab_model.specs.declared.shape.Shape.{Shape}
 use Rattle.slab_model.specs.Geometry.{page_size, start_of, pages_of, class_size, first_index, kind_of}
 use Rattle.slab_model.specs.Blocks.{page_number, place_in_page}
+use Rattle.slab_pages.specs.Frames.{ChangesFrom}
 use Rattle.slab_pages.specs.Places.{Image, log_ctx_word, data_word, bitmap_words, descriptor_word, descriptor, slab_at, prev_at}
 use Rattle.slab_pool.specs.Bits.{bits_word}
 
@@ -71,6 +72,20 @@ pub record KeepsPages (old new : Image) : Type 0 where
   pub pages : (w : ℕ) → descriptor_word (pages_of old.shape) ≤ w → is_bitmap_word old w ≡ false → is_bitmap_word new w ≡ false → slice_index new.words w ≡ slice_index old.words w
   pub log_ctx : slice_index new.words log_ctx_word ≡ slice_index old.words log_ctx_word
   pub data_is : slice_index new.words data_word ≡ slice_index old.words data_word
+
+-- the same, but for this block of so many words
+pub record KeepsPagesBut (old new : Image) (at count : ℕ) : Type 0 where
+  pub shape_is : new.shape ≡ old.shape
+  pub same_length : length new.words ≡ length old.words
+  pub pages : (w : ℕ) → descriptor_word (pages_of old.shape) ≤ w → (w < at / 8) ⊎ (at / 8 + count ≤ w) → is_bitmap_word old w ≡ false → is_bitmap_word new w ≡ false → slice_index new.words w ≡ slice_index old.words w
+  pub log_ctx : slice_index new.words log_ctx_word ≡ slice_index old.words log_ctx_word
+  pub data_is : slice_index new.words data_word ≡ slice_index old.words data_word
+
+-- these words are 0 now, and every other one is as before
+pub record ClearsWords (old new : Image) (from count : ℕ) : Type 0 where
+  pub shape_is : new.shape ≡ old.shape
+  pub changes : ChangesFrom old.words new.words from (from + count)
+  pub cleared : (w : ℕ) → from ≤ w → w < from + count → slice_index new.words w ≡ 0
 
 -- a block of so many words is live at `at` where none was, and every other block has its words
 pub record GrantsWords (old new : Words) (at count : ℕ) : Type 0 where

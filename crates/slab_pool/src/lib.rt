@@ -9,6 +9,7 @@ mod places;
 pub mod pool;
 mod probe;
 mod returns;
+mod runs;
 mod stats;
 
 pub use fault::FreeFault;

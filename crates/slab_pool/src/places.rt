@@ -1,7 +1,8 @@
 ghost use Rattle.std.specs.Prelude.{◌≡◌, ℕ, ◌+◌, ◌*◌, ◌/◌, ◌<◌, ◌≤◌, length};
+ghost use Rattle.slab_model.specs.Geometry.{page_offset};
 ghost use Rattle.slab_pages.specs.Places.{class_head, descriptor, page_limit, slab_at, next_at, prev_at};
 
-use slab_model::{DESCRIPTOR_SIZE, PREFIX_SIZE};
+use slab_model::{DESCRIPTOR_SIZE, PREFIX_SIZE, page_size};
 use slab_pages::Pages;
 use slab_pages::places::{byte_offset, descriptor_at, head_at};
 
@@ -53,4 +54,14 @@ pub(crate) fn prev(pages: &Pages, o: u64) -> u64
     ensures { result ≡ prev_at pages.now.words o }
 {
     pages.word(o / 8 + 2)
+}
+
+// Byte offset of a page.
+#[tactic(auto, using(slab_model::proofs::ClassLemmas::zone))]
+pub(crate) fn offset_of(pages: &Pages, page: u64) -> u64
+    requires { page ≤ page_limit }
+    ensures { result ≡ page_offset pages.now.shape page }
+{
+    let g = pages.geometry();
+    g.start + page_size(g.shape()) * page
 }

@@ -1,0 +1,170 @@
+-- What the calls of a pool leave of its blocks.
+use Rattle.std.proofs.Common.{ℕ, ◌≡◌, ◌≢◌, ◌⊎◌, ◌+◌, ◌-◌, ◌*◌, ◌/◌, ◌<◌, ◌≤◌, Bool, true, false, ◌||◌, ltb, List, [], length, get_or, set, replicate, Option, Some, None, MatchOption, sym, ap, subst, ◌∙◌, refl, arith, inl, inr, get_or-set_same, get_or-set_other}
+use Rattle.std.proofs.lemmas.List.{length-set, same_lists, get_or_default, length-replicate, get_or-replicate}
+use Rattle.std.proofs.lemmas.Bool.{cases_eq, cases_lt}
+use Rattle.std.proofs.lemmas.Grind.{common_steps}
+use Rattle.zone_region.specs.declared.blocks.Block.{Block}
+use Rattle.zone_region.specs.Words.{Words, SetsWord}
+use Rattle.slab_model.specs.declared.shape.Shape.{Shape}
+use Rattle.slab_model.specs.Geometry.{IsInLimits, start_of, pages_of}
+use Rattle.slab_model.specs.State.{Slab, pages_in, fresh_slab}
+use Rattle.slab_model.specs.Blocks.{IsLive, live_bytes}
+use Rattle.slab_model.specs.Grant.{grant, block_bytes}
+use Rattle.slab_model.specs.Return.{give_back}
+use Rattle.slab_model.specs.Inside.{offset_of}
+use Rattle.slab_model.proofs.ClassLemmas.{zone}
+use Rattle.slab_model.proofs.BlockLaws.{grant-grants, grant-none, give_back-returns, fresh-law, blocks-law}
+use Rattle.slab_pages.specs.Places.{Image, log_ctx_word, data_word, descriptor_word}
+use Rattle.slab_pages.specs.Frames.{ChangesFrom, SameLaid}
+use Rattle.slab_pages.specs.Layout.{LaysRuns, MaySet}
+use Rattle.slab_pages.specs.SlabLayout.{IsOpened}
+use Rattle.slab_pages.proofs.SetLemmas.{may_set-past, may_set-before}
+use Rattle.slab_pages.proofs.FrameLemmas.{LaysSlab-kept, pages-behind}
+use Rattle.slab_pool.specs.Pool.{LaysPool}
+use Rattle.slab_pool.specs.Live.{block_words, bytes_at, is_bitmap_word, rest_of, KeepsPages, KeepsPagesBut, ClearsWords, GrantsWords, ReturnsWords, SameBlockWords}
+use Rattle.slab_pool.proofs.DecodeLemmas.{bytes_at-is}
+use Rattle.slab_pool.proofs.BlockWords.{block_word, block_room, kept-block, live-block, no-block, length-block, word-block, same-block}
+use Rattle.slab_pool.proofs.RestLemmas.{rest-set, rest-laid, bitmap-belongs, few_words}
+use Rattle.slab_pool.proofs.RunLemmas.{pool-runs}
+
+-- ---- opening
+
+pub opened-pool : (shape : Shape) (image : Image) → IsInLimits shape → IsOpened shape image → LaysPool image (fresh_slab shape)
+opened-pool shape image limits o = record { shape_is = sym o.shape_is; sound = (fresh-law shape limits).0; laid = o.laid }
+
+pub opened-empty : (shape : Shape) (image : Image) → IsInLimits shape → IsOpened shape image → (at : ℕ) → block_words image at ≡ []
+opened-empty shape image limits o at = no-block image (fresh_slab shape) at (opened-pool shape image limits o) ((fresh-law shape limits).1 at)
+
+-- ---- a grant
+
+pub granted-words : (old new : Image) (slab : Slab) (size at : ℕ) → LaysPool old slab → 0 < size → LaysPool new (grant slab size).1 → (grant slab size).0 ≡ Some at → KeepsPages old new → GrantsWords (block_words old) (block_words new) at (block_bytes slab size / 8)
+granted-words old new slab size at p some q given kept =
+    let g = (grant-grants slab size at p.sound some given).0 in
+    record {
+      fresh = no-block old slab at p g.fresh;
+      long = length-block new (grant slab size).1 at q ∙ ap (λ n. n / 8) g.bytes;
+      others = λ other ne. kept-block old new slab (grant slab size).1 other p q kept (g.others other ne);
+    }
+
+pub refused-words : (old new : Image) (slab : Slab) (size : ℕ) → LaysPool old slab → LaysPool new (grant slab size).1 → (grant slab size).0 ≡ None → KeepsPages old new → SameBlockWords (block_words old) (block_words new)
+refused-words old new slab size p q none kept at = kept-block old new slab (grant slab size).1 at p q kept ((grant-none slab size none).blocks at)
+
+pub alloc-words : (old new : Image) (slab : Slab) (size : ℕ) (result : Option Block) → LaysPool old slab → 0 < size → LaysPool new (grant slab size).1 → offset_of result ≡ (grant slab size).0 → KeepsPages old new → MatchOption result (SameBlockWords (block_words old) (block_words new)) (λ b. GrantsWords (block_words old) (block_words new) b.at (block_bytes slab size / 8))
+alloc-words old new slab size None p some q is kept = refused-words old new slab size p q (sym is) kept
+alloc-words old new slab size (Some b) p some q is kept = granted-words old new slab size b.at p some q (sym is) kept
+
+-- ---- a return
+
+pub returned-words : (old new : Image) (slab : Slab) (at : ℕ) → LaysPool old slab → IsLive slab at → LaysPool new (give_back slab at) → KeepsPages old new → ReturnsWords (block_words old) (block_words new) at
+returned-words old new slab at p live q kept =
+    let r = give_back-returns slab at p.sound live in
+    record {
+      gone = no-block new (give_back slab at) at q r.gone;
+      others = λ other ne. kept-block old new slab (give_back slab at) other p q kept (r.others other ne);
+    }
+
+-- ---- one word of a block
+
+-- where it stands
+pub place-word : (image : Image) (slab : Slab) (at i : ℕ) → LaysPool image slab → i < length (block_words image at) → (at / 8 + i < length image.words) × MaySet image (at / 8 + i) × (i < live_bytes slab at / 8)
+place-word image slab at i p low =
+    let inside : i < live_bytes slab at / 8 = omega (arith, low, length-block image slab at p) in
+    let b = block_word image slab at i p inside in
+    (b.within, may_set-past image slab.runs (at / 8 + i) (pool-runs image slab p) b.within b.low, inside)
+
+pub set-words : (old new : Image) (slab : Slab) (at i v : ℕ) → LaysPool old slab → i < live_bytes slab at / 8 → new ≡ record { shape = old.shape; words = set old.words (at / 8 + i) v } → SetsWord (block_words old) (block_words new) at i v
+set-words old new slab at i v p low is =
+    let q = rest-laid old new slab (rest-set old new slab at i v p low is) p in
+    let words : new.words ≡ set old.words (at / 8 + i) v = ap (λ (m : Image). m.words) is in
+    record {
+      changed = same_lists (block_words new at) (set (block_words old at) i v)
+          (length-block new slab at q ∙ sym (length-set (block_words old at) i v ∙ length-block old slab at p))
+          (λ k d l.
+              let inside : k < live_bytes slab at / 8 = omega (arith, l, length-block new slab at q) in
+              let long = length-set (block_words old at) i v in
+              get_or_default (block_words new at) k d 0 l
+              ∙ word-block new slab at k q inside ∙ ap (λ ws. get_or ws (at / 8 + k) 0) words ∙ here k inside (cases_eq k i)
+              ∙ get_or_default (set (block_words old at) i v) k 0 d (omega (arith, inside, long, length-block old slab at p)));
+      others = λ other ne. same-block old new slab slab other p q refl (λ k l. ap (λ ws. get_or ws (other / 8 + k) 0) words ∙ get_or-set_other old.words (at / 8 + i) (other / 8 + k) v 0 (apart other k ne l));
+    } where
+      here : (k : ℕ) → k < live_bytes slab at / 8 → (k ≡ i) ⊎ (k ≢ i) → get_or (set old.words (at / 8 + i) v) (at / 8 + k) 0 ≡ get_or (set (block_words old at) i v) k 0
+      here k inside (inl e) =
+          let at_word : at / 8 + k ≡ at / 8 + i = omega (arith, e) in
+          ap (λ n. get_or (set old.words (at / 8 + i) v) n 0) at_word ∙ get_or-set_same old.words (at / 8 + i) v 0 (block_word old slab at i p low).within
+          ∙ sym (ap (λ n. get_or (set (block_words old at) i v) n 0) e ∙ get_or-set_same (block_words old at) i v 0 (omega (arith, low, length-block old slab at p)))
+      here k inside (inr ne) =
+          get_or-set_other old.words (at / 8 + i) (at / 8 + k) v 0 (λ e. ne (omega (arith, e)))
+          ∙ sym (get_or-set_other (block_words old at) i k v 0 ne ∙ word-block old slab at k p inside)
+
+      apart : (other k : ℕ) → other ≢ at → k < live_bytes slab other / 8 → other / 8 + k ≢ at / 8 + i
+      apart other k ne l e =
+          let live_other : IsLive slab other = omega (arith, l) in
+          let live_at : IsLive slab at = omega (arith, low) in
+          let a = block_room old slab at p live_at in
+          let b = block_room old slab other p live_other in
+          elim ((blocks-law slab p.sound).0 other at live_other live_at ne) [
+            | inl before ↦ omega (arith, before, a.even, a.long, b.even, b.long, e, l, low)
+            | inr after ↦ omega (arith, after, a.even, a.long, b.even, b.long, e, l, low)
+          ]
+
+-- ---- the words of a block become 0
+
+pub cleared-pool : (old new : Image) (slab : Slab) (at : ℕ) → LaysPool old slab → IsLive slab at → ClearsWords old new (at / 8) (live_bytes slab at / 8) → LaysPool new slab
+cleared-pool old new slab at p live c = record {
+  shape_is = p.shape_is ∙ sym c.shape_is;
+  sound = p.sound;
+  laid = LaysSlab-kept slab old.words new.words p.sound (record {
+    same_length = c.changes.same_length;
+    low = λ w low _ _. let room = block_room old slab at p live in let z = zone slab.shape p.sound.limits in c.changes.others w (inl (omega (arith, low, room.behind, room.even, z.behind, ap (λ (s : Shape). start_of s) p.shape_is)));
+    bitmaps = λ page class used is kind w low high. c.changes.others w (elim (cases_lt w (at / 8)) [
+      | inl before ↦ inl before
+      | inr from ↦ elim (cases_lt w (at / 8 + live_bytes slab at / 8)) [
+        | inl inside ↦
+            let place : at / 8 + (w - at / 8) ≡ w = omega (arith, from) in
+            let b = block_word old slab at (w - at / 8) p (omega (arith, inside, from)) in
+            absurd (both (8 * w) (start_of old.shape) (is_bitmap_word old w) (omega (arith, b.behind, place)) (sym (ap (λ n. is_bitmap_word old n) place) ∙ b.no_bits) (bitmap-belongs old slab page class used w p is kind low high (few_words slab.shape class (p.sound.used page class used is).known)))
+        | inr after ↦ inr after
+      ]
+    ]);
+  }) p.laid;
+} where
+  both : (n start : ℕ) (b : Bool) → start ≤ n → b ≡ false → (ltb n start || b) ≡ true → ⊥
+  both n start b high off on = grind (arith, common_steps)
+
+-- the block is all 0, and the other blocks keep their words
+pub cleared-words : (old new : Image) (slab : Slab) (at : ℕ) → LaysPool old slab → IsLive slab at → ClearsWords old new (at / 8) (live_bytes slab at / 8) → (block_words new at ≡ replicate (live_bytes slab at / 8) 0) × ((other : ℕ) → other ≢ at → block_words new other ≡ block_words old other)
+cleared-words old new slab at p live c =
+    let q = cleared-pool old new slab at p live c in (
+      same_lists (block_words new at) (replicate (live_bytes slab at / 8) 0)
+      (length-block new slab at q ∙ sym (length-replicate (live_bytes slab at / 8) 0))
+      (λ k d l.
+          let inside : k < live_bytes slab at / 8 = omega (arith, l, length-block new slab at q) in
+          get_or_default (block_words new at) k d 0 l ∙ word-block new slab at k q inside ∙ c.cleared (at / 8 + k) (omega arith) (omega (arith, inside)) ∙ sym (get_or-replicate (live_bytes slab at / 8) k 0 d inside)),
+      λ other ne. same-block old new slab slab other p q refl (λ k l. c.changes.others (other / 8 + k) (outside other k ne l)),
+    ) where
+      outside : (other k : ℕ) → other ≢ at → k < live_bytes slab other / 8 → (other / 8 + k < at / 8) ⊎ (at / 8 + live_bytes slab at / 8 ≤ other / 8 + k)
+      outside other k ne l =
+          let live_other : IsLive slab other = omega (arith, l) in
+          let a = block_room old slab at p live in
+          let b = block_room old slab other p live_other in
+          elim ((blocks-law slab p.sound).0 other at live_other live ne) [
+            | inl before ↦ inl (omega (arith, before, a.even, a.long, b.even, b.long, l))
+            | inr after ↦ inr (omega (arith, after, a.even, a.long, b.even, b.long, l))
+          ]
+
+-- ---- the words that name the context and the name block
+
+pub root-pool : (old new : Image) (slab : Slab) → LaysPool old slab → new.shape ≡ old.shape → length new.words ≡ length old.words → ((w : ℕ) → w ≢ log_ctx_word → w ≢ data_word → get_or new.words w 0 ≡ get_or old.words w 0) → LaysPool new slab
+root-pool old new slab p shape long others = record {
+  shape_is = p.shape_is ∙ sym shape;
+  sound = p.sound;
+  laid = LaysSlab-kept slab old.words new.words p.sound (record {
+    same_length = long;
+    low = λ w _ a b. others w a b;
+    bitmaps = λ page class used is kind w low high. let behind = pages-behind slab.shape page p.sound.limits in others w (λ e. omega (arith, e, low, behind)) (λ e. omega (arith, e, low, behind));
+  }) p.laid;
+}
+
+pub root-words : (old new : Image) (slab : Slab) (at : ℕ) → LaysPool old slab → new.shape ≡ old.shape → length new.words ≡ length old.words → ((w : ℕ) → w ≢ log_ctx_word → w ≢ data_word → get_or new.words w 0 ≡ get_or old.words w 0) → block_words new at ≡ block_words old at
+root-words old new slab at p shape long others =
+    same-block old new slab slab at p (root-pool old new slab p shape long others) refl (λ k l. let b = block_word old slab at k p l in others (at / 8 + k) (λ e. omega (arith, e, b.low)) (λ e. omega (arith, e, b.low)))
