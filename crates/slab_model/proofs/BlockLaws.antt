@@ -11,11 +11,11 @@ use Rattle.slab_model.specs.Geometry.{start_of, pages_of, page_offset, block_off
 use Rattle.slab_model.specs.Numbers.{is_member, with_number, without}
 use Rattle.slab_model.specs.Runs.{first_fit}
 use Rattle.slab_model.specs.State.{Slab, page_at, list_of, fresh_slab, fill_pages}
-use Rattle.slab_model.specs.Blocks.{live_bytes, live_in_page, page_number, place_in_page, lowest_unused, used_in}
+use Rattle.slab_model.specs.Blocks.{IsLive, live_bytes, live_in_page, page_number, place_in_page, lowest_unused, used_in}
 use Rattle.slab_model.specs.Grant.{use_pages, block_bytes, block_bytes_as, grant, grant_as, grant_run, grant_from_list, grant_in_page, grant_in_new_page}
 use Rattle.slab_model.specs.Return.{give_back, give_in_page, give_pages}
 use Rattle.slab_model.specs.Soundness.{AreUsed, IsSound}
-use Rattle.slab_model.specs.Laws.{AreDisjoint, LiesInPages, Grants, Returns, SameBlocks, FreshLaw, GrantLaw, NoGrantLaw, ReturnLaw, BlocksLaw}
+use Rattle.slab_model.specs.Laws.{AreDisjoint, LiesInPages, Grants, Returns, SameBlocks, FreshLaw, GrantLaw, NewBlockLaw, NoGrantLaw, ReturnLaw, BlocksLaw}
 use Rattle.slab_model.proofs.ClassLemmas.{cuts, zone, class_of-some, pages_for-holds}
 use Rattle.slab_model.proofs.NumberLemmas.{member, is_member-with, is_member-without}
 use Rattle.slab_model.proofs.RunLemmas.{first_fit-in}
@@ -25,7 +25,7 @@ use Rattle.slab_model.proofs.StateLemmas.{page_at-in, lowest-in, used-usable}
 use Rattle.slab_model.proofs.SoundLemmas.{IsSound-fresh, listed-is, fit_free, class_page-in}
 use Rattle.slab_model.proofs.BlockLemmas.{offset_is, live_bytes-low, live_bytes-in, live_bytes-at, live_of, live_not, live_more, live_less, live_none, block_end, Lies, lies}
 use Rattle.slab_model.proofs.BlockLemmas.Lies.{in_page, over_pages}
-use Rattle.slab_model.proofs.Laws.{give_back-class, give_back-run}
+use Rattle.slab_model.proofs.Laws.{grant-sound, give_back-class, give_back-run}
 
 -- two slabs over the same zone have the same block at an offset where their pages agree on it
 live_same : (old new : Slab) (at : ℕ) → new.shape ≡ old.shape → (start_of old.shape ≤ at → live_in_page old.shape (page_at new.pages (page_number old.shape at)) (place_in_page old.shape at) ≡ live_in_page old.shape (page_at old.pages (page_number old.shape at)) (place_in_page old.shape at)) → live_bytes new at ≡ live_bytes old at
@@ -375,3 +375,21 @@ blocks-law slab s = (disjoint, λ at live. lies_in_pages slab at s (lies slab at
       | inr more ↦ inr (ends_before slab b a s more (lies slab b s b_live) (lies slab a s a_live))
     ]
   ]
+
+pub new_block-law : NewBlockLaw
+new_block-law slab size at s some given =
+    let new = (grant slab size).1 in
+    let g = grant-grants slab size at s some given in
+    let sound = grant-sound slab size s some in
+    let live : IsLive new at = omega (arith, g.0.bytes, g.1) in
+    let blocks = blocks-law new sound in
+    record {
+      lies = blocks.1 at live;
+      apart = λ other was.
+        let ne : other ≢ at = λ e. absurd (omega (arith, g.0.fresh, ap (λ k. live_bytes slab k) e)) in
+        let same = g.0.others other ne in
+        elim (blocks.0 at other live (omega (arith, same)) (λ e. ne (sym e))) [
+          | inl before ↦ inl (omega (arith, before, g.0.bytes))
+          | inr after ↦ inr (omega (arith, after, same))
+        ];
+    }

@@ -1,5 +1,5 @@
 -- Free and used pages are all pages, and what was just granted comes back without a trace.
-use Rattle.std.proofs.Common.{ℕ, ◌≡◌, ◌+◌, ◌-◌, ◌<◌, zero, suc, min, max, true, false, not, ◌||◌, eqb, List, [], ◌∷◌, Option, Some, None, length, sym, ap, subst, ◌∙◌, refl, arith, inl, inr, cond, get_or-set_same}
+use Rattle.std.proofs.Common.{ℕ, ◌≡◌, ◌+◌, ◌-◌, ◌*◌, ◌<◌, zero, suc, min, max, true, false, not, ◌||◌, eqb, List, [], ◌∷◌, Option, Some, None, length, sym, ap, subst, ◌∙◌, refl, arith, inl, inr, cond, get_or-set_same}
 use Rattle.std.specs.Prelude.{count_by}
 use Rattle.std.proofs.lemmas.List.Sums.{sum_by-cons}
 use Rattle.std.proofs.lemmas.Bool.{cases_eq}
@@ -7,22 +7,24 @@ use Rattle.std.proofs.lemmas.Grind.{common_steps}
 use Rattle.slab_model.specs.declared.runs.Run.{Run}
 use Rattle.slab_model.specs.declared.page.PageState.{PageState}
 use Rattle.slab_model.specs.declared.page.PageState.TheVariants.{Free, Class}
-use Rattle.slab_model.specs.Geometry.{page_offset, block_offset, pages_of, class_of, pages_for, first_index}
+use Rattle.slab_model.specs.Geometry.{class_size, blocks_in_page, page_offset, block_offset, pages_of, class_of, pages_for, first_index}
 use Rattle.slab_model.specs.Numbers.{is_member, with_number, without}
 use Rattle.slab_model.specs.Runs.{AreSound, IsRunApart, is_covered, is_within, page_total, first_fit, take_run, give_run}
 use Rattle.slab_model.specs.State.{Slab, page_at, list_of}
-use Rattle.slab_model.specs.Blocks.{live_bytes, IsLive, lowest_unused, used_in}
+use Rattle.slab_model.specs.Blocks.{page_number, live_bytes, IsLive, lowest_unused, used_in}
 use Rattle.slab_model.specs.Counting.{is_free, free_pages}
-use Rattle.slab_model.specs.Grant.{grant, grant_as, grant_run, grant_from_list, grant_in_page, grant_in_new_page}
+use Rattle.slab_model.specs.Grant.{is_empty, grant, grant_as, grant_run, grant_from_list, grant_in_page, grant_in_new_page}
 use Rattle.slab_model.specs.Return.{give_back, give_in_page}
-use Rattle.slab_model.specs.Soundness.{IsSound}
-use Rattle.slab_model.specs.Laws.{PagesLaw, RoundTripLaw}
-use Rattle.slab_model.proofs.ClassLemmas.{class_of-some, pages_for-holds}
-use Rattle.slab_model.proofs.NumberLemmas.{is_member-with, without-with}
+use Rattle.slab_model.specs.Soundness.{AreUsed, IsSound}
+use Rattle.slab_model.specs.Laws.{PagesLaw, GrantPagesLaw, ReturnPagesLaw, RoundTripLaw, pages_taken_as, pages_back}
+use Rattle.slab_model.proofs.ClassLemmas.{cuts, class_of-some, pages_for-holds}
+use Rattle.slab_model.proofs.NumberLemmas.{member, is_member-with, without-with, length-without}
 use Rattle.slab_model.proofs.RunLemmas.{apart_covers, page_total-take, page_total-give, AreSound-take, first_fit-in, is_within-parts}
 use Rattle.slab_model.proofs.PageLemmas.{page_at-use_first}
-use Rattle.slab_model.proofs.StateLemmas.{lowest-in, AreUsed-grant, AreUsed-one}
+use Rattle.slab_model.proofs.StateLemmas.{used-usable, used-distinct, lowest-in, AreUsed-grant, AreUsed-one}
 use Rattle.slab_model.proofs.SoundLemmas.{listed-is, class_page-in}
+use Rattle.slab_model.proofs.BlockLemmas.{page_number-is, block_end, Lies, lies}
+use Rattle.slab_model.proofs.BlockLemmas.Lies.{in_page, over_pages}
 use Rattle.slab_model.proofs.Laws.{grant-sound, give_back-class, give_back-run}
 use Rattle.slab_model.proofs.BlockLaws.{grant-grants, give_back-returns}
 
@@ -171,6 +173,63 @@ back_as slab size at s some (Some class) is given = back_from_list slab class at
 back_free : (slab : Slab) (size at : ℕ) → IsSound slab → 0 < size → (grant slab size).0 ≡ Some at → free_pages (give_back (grant slab size).1 at) ≡ free_pages slab
 unfolding grant
 back_free slab size at s some given = back_as slab size at s some (class_of slab.shape size) refl given
+
+-- ---- the free pages after a grant and a return
+
+taken_from_list : (slab : Slab) (class at : ℕ) (listed : List ℕ) → (grant_from_list slab class listed).0 ≡ Some at → free_pages (grant_from_list slab class listed).1 + cond (is_empty listed) 1 0 ≡ free_pages slab
+taken_from_list slab class at (page ∷ rest) given = omega arith
+taken_from_list slab class at [] given = new_page (first_fit 1 slab.runs) refl given where
+  new_page : (fit : Option ℕ) → first_fit 1 slab.runs ≡ fit → (grant_in_new_page slab class fit).0 ≡ Some at → free_pages (grant_in_new_page slab class fit).1 + 1 ≡ free_pages slab
+  new_page None fit given = absurd (cc)
+  new_page (Some page) fit given = page_total-take 1 slab.runs page fit
+
+taken_from_runs : (slab : Slab) (count at : ℕ) (fit : Option ℕ) → first_fit count slab.runs ≡ fit → (grant_run slab count fit).0 ≡ Some at → free_pages (grant_run slab count fit).1 + count ≡ free_pages slab
+taken_from_runs slab count at None fit given = absurd (cc)
+taken_from_runs slab count at (Some page) fit given = page_total-take count slab.runs page fit
+
+taken_as : (slab : Slab) (size at : ℕ) (class : Option ℕ) → (grant_as slab size class).0 ≡ Some at → free_pages (grant_as slab size class).1 + pages_taken_as slab size class ≡ free_pages slab
+taken_as slab size at None given = taken_from_runs slab (pages_for slab.shape size) at (first_fit (pages_for slab.shape size) slab.runs) refl given
+taken_as slab size at (Some class) given = taken_from_list slab class at (list_of slab class) given
+
+pub grant_pages-law : GrantPagesLaw
+unfolding grant
+grant_pages-law slab size at given = taken_as slab size at (class_of slab.shape size) given
+
+-- the list of free runs once a run of a sound slab came back
+back_total : (slab : Slab) (first count : ℕ) → IsSound slab → page_total (give_run (record { first = first; pages = count }) slab.runs) ≡ page_total slab.runs + count
+back_total slab first count s = let given = page_total-give (pages_of slab.shape) (record { first = first; pages = count }) slab.runs s.runs in omega (arith, given)
+
+back_of_class : (slab : Slab) (page class index : ℕ) (used left : List ℕ) → IsSound slab → AreUsed slab.shape class used → is_member index used ≡ true → without index used ≡ left → page_total (give_in_page slab page class used left).runs ≡ page_total slab.runs + pages_back (Class class used)
+back_of_class slab page class index used [] s ok there now =
+    let fewer = length-without index used (used-distinct slab.shape class used ok) there in
+    let none = ap (λ l. length l) now in
+    let one : length used ≡ 1 = omega (arith, fewer, none) in
+    let back = back_total slab page 1 s in
+    grind (arith, common_steps, back, one)
+back_of_class slab page class index used (l ∷ ls) s ok there now =
+    let fewer = length-without index used (used-distinct slab.shape class used ok) there in
+    let more = ap (λ l. length l) now in
+    let many : 1 < length used = omega (arith, fewer, more) in
+    grind (arith, common_steps, many)
+
+back_at : (slab : Slab) (at : ℕ) → IsSound slab → Lies slab at → free_pages (give_back slab at) ≡ free_pages slab + pages_back (page_at slab.pages (page_number slab.shape at))
+back_at slab at s (in_page page class used index is ok there at_is bytes) =
+    let c = cuts slab.shape class ok.known in
+    let end = block_end (class_size class) index (blocks_in_page slab.shape class) c.whole (used-usable slab.shape class index used ok ((member index used).0 there)).1 in
+    let number : page_number slab.shape at ≡ page = ap (λ k. page_number slab.shape k) at_is ∙ page_number-is slab.shape page (class_size class * index) (omega (arith, end, c.some)) in
+    ap (λ k. free_pages (give_back slab k)) at_is
+    ∙ ap (λ (t : Slab). page_total t.runs) (give_back-class slab page class index used is ok there)
+    ∙ back_of_class slab page class index used (without index used) s ok there refl
+    ∙ ap (λ t. page_total slab.runs + pages_back t) (sym (ap (λ k. page_at slab.pages k) number ∙ is))
+back_at slab at s (over_pages page count is at_is bytes) =
+    let number : page_number slab.shape at ≡ page = omega (arith, at_is) in
+    ap (λ k. free_pages (give_back slab k)) at_is
+    ∙ ap (λ (t : Slab). page_total t.runs) (give_back-run slab page count is)
+    ∙ back_total slab page count s
+    ∙ ap (λ t. page_total slab.runs + pages_back t) (sym (ap (λ k. page_at slab.pages k) number ∙ is))
+
+pub return_pages-law : ReturnPagesLaw
+return_pages-law slab at s live = back_at slab at s (lies slab at s live)
 
 pub round_trip-law : RoundTripLaw
 round_trip-law slab size at s some given =

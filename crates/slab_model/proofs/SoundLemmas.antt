@@ -474,7 +474,7 @@ IsSound-give_pages slab page count s is =
         inside q n h = grind (arith, common_steps)
 
 -- what a page of the class adds to its statistics
-stat_covers : (slab : Slab) (class page : ℕ) (used : List ℕ) → IsSound slab → class < 9 → page_at slab.pages page ≡ Class class used → (usable_blocks slab.shape class ≤ (stat_of slab class).total) × (length used ≤ (stat_of slab class).used)
+pub stat_covers : (slab : Slab) (class page : ℕ) (used : List ℕ) → IsSound slab → class < 9 → page_at slab.pages page ≡ Class class used → (usable_blocks slab.shape class ≤ (stat_of slab class).total) × (length used ≤ (stat_of slab class).used)
 stat_covers slab class page used s known is =
     let here : page < length slab.pages = page_at-in slab.pages page (λ e. cc) in
     let total = get_or-le-sum_by (usable_in_class slab.shape class) slab.pages page Free here in

@@ -11,7 +11,7 @@ use Rattle.slab_model.specs.Geometry.{pages_of, most_pages, start_of, IsInLimits
 use Rattle.slab_model.specs.Runs.{page_total}
 use Rattle.slab_model.specs.State.{no_stat}
 use Rattle.slab_pages.specs.Places.{free_head, pfree_word, descriptor, is_list_word, is_run_word, descriptor_word, descriptor_page, free_word, head_word, stat_word, byte_of, class_head, min_size_word, min_shift_word, pages_word, last_word, stats_word, start_word, end_word, mutex_word, log_ctx_word, data_word, lock_word, wait_word, zero_word, log_nomem_word, addr_word}
-use Rattle.slab_pages.specs.Steps.{LaysList, IsCleared, Relists}
+use Rattle.slab_pages.specs.RunSteps.{LaysList, IsCleared, Relists}
 use Rattle.slab_pages.specs.SlabLayout.{LaysClass, LaysStat, IsOpened}
 use Rattle.slab_pages.specs.Opening.{all_below, put_all, WritesHeads, IsPrepared}
 use Rattle.slab_pages.proofs.PlaceLemmas.{descriptor-word}

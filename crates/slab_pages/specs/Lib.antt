@@ -6,6 +6,6 @@ pub mod Shapes
 pub mod Places
 pub mod Layout
 pub mod Frames
-pub mod Steps
+pub mod RunSteps
 pub mod SlabLayout
 pub mod Opening

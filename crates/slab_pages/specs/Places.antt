@@ -128,8 +128,8 @@ unfoldable pub descriptor : ℕ → ℕ
 descriptor page = byte_of (descriptor_word page)
 
 -- the offset of the head, or of a page's descriptor
-abbrev pub IsPlace : ℕ → Type 0
-IsPlace o = (o ≡ free_head) ⊎ ((page : ℕ) × (o ≡ descriptor page))
+abbrev pub IsDescriptorOffset : ℕ → Type 0
+IsDescriptorOffset o = (o ≡ free_head) ⊎ ((page : ℕ) × (o ≡ descriptor page))
 
 -- the three words of the descriptor at a byte offset
 abbrev pub slab_at : List ℕ → ℕ → ℕ
