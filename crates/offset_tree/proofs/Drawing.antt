@@ -1,11 +1,11 @@
 -- From the layout of a list of blocks to a drawn tree, and back.
-use Rattle.std.proofs.Common.{ℕ, ◌≡◌, ◌≢◌, ◌+◌, ◌*◌, ◌^◌, ◌<◌, ◌≤◌, zero, suc, Bool, true, false, List, [], ◌∷◌, ◌++◌, length, sym, ap, subst, ◌∙◌, refl, arith, inl, inr}
+use Rattle.std.proofs.Common.{ℕ, ◌≡◌, ◌≢◌, ◌+◌, ◌^◌, ◌<◌, ◌≤◌, zero, suc, Bool, true, false, List, [], ◌∷◌, ◌++◌, length, sym, ap, subst, ◌∙◌, refl, arith, inl, inr}
 use Rattle.zone_region.specs.Words.{Words, word_at}
 use Rattle.offset_tree.specs.declared.tree.Tree.{Tree}
 use Rattle.zone_region.specs.Members.{In, IsDistinct}
 use Rattle.zone_region.specs.Holding.{HoldsBlocks}
 use Rattle.zone_region.proofs.HoldingLemmas.{holds_some, holds_kept, holds_one}
-use Rattle.offset_tree.specs.Keys.{Rank, HoldsKey, IsOrdered}
+use Rattle.offset_tree.specs.Keys.{Rank, IsOrdered}
 use Rattle.offset_tree.specs.Layout.{LaysPart, empty, red, black, LaysTree, IsContext, HasNodes, IsTree, CanInsert}
 use Rattle.offset_tree.specs.Changes.{MakesEmpty}
 use Rattle.offset_tree.specs.Shape.{Shape, leaf, node, blocks_of, hits}

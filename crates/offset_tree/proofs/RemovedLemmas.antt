@@ -1,5 +1,5 @@
 -- The list without a block, as a tree.
-use Rattle.std.proofs.Common.{ℕ, ◌≢◌, List, [], ◌∷◌, ◌++◌, ◌≤◌, length, subst, arith}
+use Rattle.std.proofs.Common.{ℕ, ◌≢◌, List, [], ◌∷◌, ◌++◌, subst, arith}
 use Rattle.zone_region.specs.Words.{Words}
 use Rattle.offset_tree.specs.declared.tree.Tree.{Tree}
 use Rattle.offset_tree.specs.declared.tree.Form.{Form}

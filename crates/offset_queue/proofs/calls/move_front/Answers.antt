@@ -1,6 +1,6 @@
 use Rattle.std.proofs.Common.{ℕ, List, ◌∷◌, ◌++◌, sym, subst}
 use Rattle.zone_region.proofs.MembersLemmas.{In-split, In-middle, In-moved}
-use Rattle.offset_queue.specs.Queue.{IsQueue, CanPush, ChangesLinks}
+use Rattle.offset_queue.specs.Queue.{IsQueue, ChangesLinks}
 use Rattle.offset_queue.proofs.Queues.{can_return, changes_twice, changes_more}
 use Rattle.offset_queue.proofs.calls.move_front.Goals as goal
 

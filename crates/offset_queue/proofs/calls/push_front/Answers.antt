@@ -1,7 +1,6 @@
-use Rattle.std.proofs.Common.{ℕ, ◌≡◌, List, ◌∷◌, refl, inl, inr, sym, ap, subst, ◌∙◌, arith}
-use Rattle.offset_queue.specs.Queue.{head_joint, AreLinked, CanPush}
+use Rattle.std.proofs.Common.{ℕ, List, ◌∷◌, refl, inl, inr, sym, subst}
+use Rattle.offset_queue.specs.Queue.{CanPush}
 use Rattle.offset_queue.specs.Joining.{IsJoint}
-use Rattle.offset_queue.proofs.Chains.{front_of, chain_front}
 use Rattle.offset_queue.proofs.Joints.{joint_room, joint_ends, joint_alone, front_joint, front_found, joins_at}
 use Rattle.offset_queue.proofs.Queues.{Pushes, unpushed, pushed, pushed_changes}
 use Rattle.offset_queue.proofs.calls.push_front.Given as given

@@ -1,5 +1,4 @@
-use Rattle.std.proofs.Common.{ℕ, ◌≡◌, List, ◌∷◌, ◌++◌, refl, inl, inr, sym, ap, subst, ◌∙◌, arith}
-use Rattle.zone_region.specs.Members.{In}
+use Rattle.std.proofs.Common.{ℕ, List, ◌∷◌, ◌++◌, refl, inr, sym, subst}
 use Rattle.zone_region.proofs.MembersLemmas.{In-split, In-append_left, In-append_right}
 use Rattle.offset_queue.specs.Queue.{head_joint, IsQueue, ChangesLinks}
 use Rattle.offset_queue.specs.Joining.{IsJoint, Joins}

@@ -1,0 +1,4 @@
+pub mod Histories
+pub mod Fair
+pub mod Carried
+pub mod Own

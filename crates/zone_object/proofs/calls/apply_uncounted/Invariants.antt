@@ -1,0 +1,4 @@
+use Rattle.zone_object.proofs.calls.apply_uncounted.Given as goal
+
+abbrev pub ghosts-apply_with : goal.ghosts-apply_with
+ghosts-apply_with g a = record { name = a.blank.name; parts = a.blank.parts }
