@@ -1,5 +1,5 @@
 -- What the calls of a pool leave of its blocks.
-use Rattle.std.proofs.Common.{ℕ, ◌≡◌, ◌≢◌, ◌⊎◌, ◌+◌, ◌-◌, ◌*◌, ◌/◌, ◌<◌, ◌≤◌, Bool, true, false, ◌||◌, ltb, List, [], length, get_or, set, replicate, Option, Some, None, MatchOption, sym, ap, subst, ◌∙◌, refl, arith, inl, inr, get_or-set_same, get_or-set_other}
+use Rattle.std.proofs.Common.{ℕ, ◌≡◌, ◌≢◌, ◌⊎◌, ◌+◌, ◌-◌, ◌*◌, ◌/◌, ◌^◌, ◌<◌, ◌≤◌, Bool, true, false, ◌||◌, ltb, List, [], length, get_or, set, replicate, Option, Some, None, MatchOption, sym, ap, subst, ◌∙◌, refl, arith, inl, inr, get_or-set_same, get_or-set_other}
 use Rattle.std.proofs.lemmas.List.{length-set, same_lists, get_or_default, length-replicate, get_or-replicate}
 use Rattle.std.proofs.lemmas.Bool.{cases_eq, cases_lt}
 use Rattle.std.proofs.lemmas.Grind.{common_steps}
@@ -168,3 +168,22 @@ root-pool old new slab p shape long others = record {
 pub root-words : (old new : Image) (slab : Slab) (at : ℕ) → LaysPool old slab → new.shape ≡ old.shape → length new.words ≡ length old.words → ((w : ℕ) → w ≢ log_ctx_word → w ≢ data_word → get_or new.words w 0 ≡ get_or old.words w 0) → block_words new at ≡ block_words old at
 root-words old new slab at p shape long others =
     same-block old new slab slab at p (root-pool old new slab p shape long others) refl (λ k l. let b = block_word old slab at k p l in others (at / 8 + k) (λ e. omega (arith, e, b.low)) (λ e. omega (arith, e, b.low)))
+
+-- the two words are set, one after the other
+root-others : (old mid new : Image) (a b : ℕ) → mid ≡ record { shape = old.shape; words = set old.words log_ctx_word a } → new ≡ record { shape = mid.shape; words = set mid.words data_word b } → (new.shape ≡ old.shape) × (length new.words ≡ length old.words) × ((w : ℕ) → w ≢ log_ctx_word → w ≢ data_word → get_or new.words w 0 ≡ get_or old.words w 0)
+root-others old mid new a b first second =
+    let one : mid.words ≡ set old.words log_ctx_word a = ap (λ (i : Image). i.words) first in
+    let two : new.words ≡ set mid.words data_word b = ap (λ (i : Image). i.words) second in (
+      ap (λ (i : Image). i.shape) second ∙ ap (λ (i : Image). i.shape) first,
+      ap (λ ws. length ws) two ∙ length-set mid.words data_word b ∙ ap (λ ws. length ws) one ∙ length-set old.words log_ctx_word a,
+      λ w x y. ap (λ ws. get_or ws w 0) two ∙ get_or-set_other mid.words data_word w b 0 y ∙ ap (λ ws. get_or ws w 0) one ∙ get_or-set_other old.words log_ctx_word w a 0 x,
+    )
+
+pub root-set_pool : (old mid new : Image) (slab : Slab) (a b : ℕ) → LaysPool old slab → mid ≡ record { shape = old.shape; words = set old.words log_ctx_word a } → new ≡ record { shape = mid.shape; words = set mid.words data_word b } → LaysPool new slab
+root-set_pool old mid new slab a b p first second = let o = root-others old mid new a b first second in root-pool old new slab p o.0 o.1 o.2
+
+pub root-set_words : (old mid new : Image) (slab : Slab) (a b at : ℕ) → LaysPool old slab → mid ≡ record { shape = old.shape; words = set old.words log_ctx_word a } → new ≡ record { shape = mid.shape; words = set mid.words data_word b } → block_words new at ≡ block_words old at
+root-set_words old mid new slab a b at p first second = let o = root-others old mid new a b first second in root-words old new slab at p o.0 o.1 o.2
+
+pub place-fits : (image : Image) (slab : Slab) (at i : ℕ) → LaysPool image slab → i < length (block_words image at) → at / 8 + i < 2 ^ 64
+place-fits image slab at i p low = let h = (place-word image slab at i p low).0 in let sized = p.laid.runs.sized in let limits = p.sound.limits in omega (arith, h, sized, limits.small)

@@ -18,6 +18,7 @@ use Rattle.slab_pages.proofs.PlaceLemmas.{descriptor-word}
 use Rattle.slab_pages.proofs.SetLemmas.{list_word-past, run_word-before, run_word-past}
 use Rattle.slab_pages.proofs.TakeLemmas.{LaysSlab-take, LaysSlab-put}
 use Rattle.slab_pages.proofs.ComeBackLemmas.{run-may_put}
+use Rattle.slab_pages.proofs.UniqueLemmas.{slab-unique}
 use Rattle.slab_pool.specs.Pool.{LaysPool}
 use Rattle.slab_pool.specs.Live.{KeepsPages}
 
@@ -115,3 +116,8 @@ fit-room image slab n page p some fit = let h = first_fit-in (pages_in slab) n s
 
 pub run-room : (image : Image) (slab : Slab) (page count : ℕ) → LaysPool image slab → page_at slab.pages page ≡ First count → (page ≤ 16384) × (descriptor page / 8 + 2 < length image.words)
 run-room image slab page count p is = let f = p.sound.used_runs.followed page count is in page-room image slab page p (omega (arith, f.0, f.1))
+
+-- ---- the words tell the slab
+
+pub pool-unique : (image : Image) (a b : Slab) → LaysPool image a → LaysPool image b → a ≡ b
+pool-unique image a b p q = slab-unique image.words a b p.sound q.sound p.laid q.laid

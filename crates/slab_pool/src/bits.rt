@@ -1,9 +1,9 @@
 ghost use Rattle.std.specs.Prelude.{◌<◌};
 ghost use Rattle.slab_pool.specs.WordBits.{IsLowestClear};
 
-use crate::places::{descriptor_of, slab};
+use crate::places::slab;
 use slab_model::{Shape, blocks_in_page, first_index};
-use slab_pages::Pages;
+use slab_pages::{Pages, offset_of};
 
 /// The class of 64 blocks in a page: the classes before it are small, those behind it big.
 pub(crate) const EXACT: u32 = 3;
@@ -23,9 +23,9 @@ fn bits(pages: &Pages, class: u32, page: u64, j: u64) -> u64 {
     if class < EXACT {
         pages.word(page_word(pages, page) + j)
     } else if class == EXACT {
-        slab(pages, descriptor_of(page))
+        slab(pages, offset_of(page))
     } else {
-        slab(pages, descriptor_of(page)) >> 32
+        slab(pages, offset_of(page)) >> 32
     }
 }
 
@@ -35,9 +35,9 @@ fn set_bits(pages: &mut Pages, class: u32, page: u64, j: u64, v: u64) {
         let w = page_word(pages, page) + j;
         pages.set_word(w, v);
     } else if class == EXACT {
-        pages.set_word(descriptor_of(page) / 8, v);
+        pages.set_word(offset_of(page) / 8, v);
     } else {
-        pages.set_word(descriptor_of(page) / 8, (v << 32) + 3 + class as u64);
+        pages.set_word(offset_of(page) / 8, (v << 32) + 3 + class as u64);
     }
 }
 
@@ -95,7 +95,7 @@ pub(crate) fn is_unused(pages: &Pages, class: u32, page: u64) -> bool {
 /// Writes the bits of a page without a used index.
 pub(crate) fn begin_bits(pages: &mut Pages, class: u32, page: u64) {
     if class < EXACT {
-        pages.set_word(descriptor_of(page) / 8, 3 + class as u64);
+        pages.set_word(offset_of(page) / 8, 3 + class as u64);
     }
     for j in 0..bit_words(class) {
         set_bits(pages, class, page, j, own_bits(pages.geometry().shape(), class, j));

@@ -1,9 +1,9 @@
 use crate::bits::{begin_bits, first_unused, mark};
 use crate::lists::{first_page, push, type_of, unlink};
-use crate::places::descriptor_of;
+use crate::runs::grant_run;
 use crate::stats::{count_fail, count_grant};
 use slab_model::{blocks_in_page, class_of, class_size, first_index, pages_for, usable_blocks};
-use slab_pages::Pages;
+use slab_pages::{Pages, offset_of};
 use zone_region::Block;
 
 /// The block of an index in a page of a class.
@@ -27,7 +27,7 @@ fn grant_in_page(pages: &mut Pages, class: u32, page: u64) -> Block {
 
 /// Makes a taken page be one of the class, without a used index and in no list.
 fn begin_page(pages: &mut Pages, class: u32, page: u64) {
-    let o = descriptor_of(page);
+    let o = offset_of(page);
     pages.set_word(o / 8 + 2, type_of(class));
     begin_bits(pages, class, page);
 }
@@ -53,14 +53,6 @@ fn grant_class(pages: &mut Pages, class: u32) -> Option<Block> {
         Some(page) => Some(grant_in_page(pages, class, page)),
         None => grant_in_new_page(pages, class),
     }
-}
-
-/// Grants whole pages.
-fn grant_run(pages: &mut Pages, count: u64) -> Option<Block> {
-    let page = pages.take(count)?;
-    Some(Block {
-        at: pages.geometry().start + 4096 * page.number,
-    })
 }
 
 /// Grants a block of at least `size` bytes, if there is one.

@@ -1,6 +1,6 @@
 use crate::bits::EXACT;
-use crate::places::{descriptor_of, head_of, next, page_of, prev};
-use slab_pages::Pages;
+use crate::places::{head_of, next, prev};
+use slab_pages::{Pages, offset_of, page_of};
 
 /// The type of a class's pages, in the low two bits of their prev word.
 pub(crate) fn type_of(class: u32) -> u64 {
@@ -32,7 +32,7 @@ pub(crate) fn first_page(pages: &Pages, class: u32) -> Option<u64> {
 
 /// Takes a page out of the class's list.
 pub(crate) fn unlink(pages: &mut Pages, class: u32, page: u64) {
-    let o = descriptor_of(page);
+    let o = offset_of(page);
     let before = prev(pages, o) - type_of(class);
     let after = next(pages, o);
     link(pages, class, before, after);
@@ -43,7 +43,7 @@ pub(crate) fn unlink(pages: &mut Pages, class: u32, page: u64) {
 /// Puts a page at the head of the class's list.
 pub(crate) fn push(pages: &mut Pages, class: u32, page: u64) {
     let head = head_of(class);
-    let o = descriptor_of(page);
+    let o = offset_of(page);
     let first = next(pages, head);
     link(pages, class, o, first);
     link(pages, class, head, o);

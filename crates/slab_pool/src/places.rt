@@ -1,10 +1,10 @@
 ghost use Rattle.std.specs.Prelude.{◌≡◌, ℕ, ◌+◌, ◌*◌, ◌/◌, ◌<◌, ◌≤◌, length};
-ghost use Rattle.slab_model.specs.Geometry.{page_offset};
-ghost use Rattle.slab_pages.specs.Places.{class_head, descriptor, page_limit, slab_at, next_at, prev_at};
+ghost use Rattle.slab_model.specs.Geometry.{page_offset as offset_in};
+ghost use Rattle.slab_pages.specs.Places.{class_head, page_limit, slab_at, next_at, prev_at};
 
-use slab_model::{DESCRIPTOR_SIZE, PREFIX_SIZE, page_size};
+use slab_model::page_size;
 use slab_pages::Pages;
-use slab_pages::places::{byte_offset, descriptor_at, head_at};
+use slab_pages::{byte_offset, head_at};
 
 // Byte offset of the head of a class's list, as links hold it.
 pub(crate) fn head_of(class: u32) -> u64
@@ -12,24 +12,6 @@ pub(crate) fn head_of(class: u32) -> u64
     ensures { result ≡ class_head class }
 {
     byte_offset(head_at(class))
-}
-
-// Byte offset of a page's descriptor.
-#[tactic(auto, unfolding(slab_pages::specs::Places::descriptor))]
-pub(crate) fn descriptor_of(page: u64) -> u64
-    requires { page ≤ page_limit }
-    ensures { result ≡ descriptor page }
-{
-    byte_offset(descriptor_at(page))
-}
-
-// The page whose descriptor is at this byte offset.
-#[tactic(auto, unfolding(slab_pages::specs::Places::descriptor))]
-pub(crate) fn page_of(o: u64) -> u64
-    requires { ((page : ℕ) × (o ≡ descriptor page)) }
-    ensures { (page : ℕ) → o ≡ descriptor page → result ≡ page }
-{
-    (o - PREFIX_SIZE) / DESCRIPTOR_SIZE
 }
 
 // The slab word of the descriptor at byte offset `o`.
@@ -58,9 +40,9 @@ pub(crate) fn prev(pages: &Pages, o: u64) -> u64
 
 // Byte offset of a page.
 #[tactic(auto, using(slab_model::proofs::ClassLemmas::zone))]
-pub(crate) fn offset_of(pages: &Pages, page: u64) -> u64
+pub(crate) fn page_offset(pages: &Pages, page: u64) -> u64
     requires { page ≤ page_limit }
-    ensures { result ≡ page_offset pages.now.shape page }
+    ensures { result ≡ offset_in pages.now.shape page }
 {
     let g = pages.geometry();
     g.start + page_size(g.shape()) * page

@@ -1,10 +1,11 @@
 use crate::bits::{EXACT, clear, is_unused, is_used};
 use crate::fault::FreeFault;
 use crate::lists::{push, unlink};
-use crate::places::{descriptor_of, next, prev, slab};
+use crate::places::{next, prev, slab};
+use crate::runs::give_run;
 use crate::stats::count_return;
 use slab_model::{class_size, first_index, usable_blocks};
-use slab_pages::{Page, Pages};
+use slab_pages::{Page, Pages, offset_of};
 
 /// Gives the last block of a page of the class back, and the page with it.
 fn give_last(pages: &mut Pages, class: u32, page: u64) {
@@ -15,7 +16,7 @@ fn give_last(pages: &mut Pages, class: u32, page: u64) {
 
 /// Gives a block of a page of the class back.
 fn give_in_page(pages: &mut Pages, class: u32, page: u64, index: u64) {
-    let was_full = next(pages, descriptor_of(page)) == 0;
+    let was_full = next(pages, offset_of(page)) == 0;
     clear(pages, class, page, index);
     if is_unused(pages, class, page) {
         give_last(pages, class, page);
@@ -27,15 +28,9 @@ fn give_in_page(pages: &mut Pages, class: u32, page: u64, index: u64) {
     count_return(pages, class, 0);
 }
 
-/// Gives a used run back.
-fn give_run(pages: &mut Pages, page: u64) {
-    let count = slab(pages, descriptor_of(page)) - (1 << 63);
-    pages.put(Page { number: page }, count);
-}
-
 /// The class of a page, none where it isn't one of a class.
 fn class_at(pages: &Pages, page: u64) -> Option<u32> {
-    let o = descriptor_of(page);
+    let o = offset_of(page);
     match prev(pages, o) % 4 {
         0 => None,
         2 => Some(EXACT),
@@ -68,7 +63,7 @@ fn refusal_in_class(pages: &Pages, class: u32, page: u64, place: u64) -> Option<
 
 /// Why no run begins so far into a page that isn't one of a class.
 fn refusal_in_run(pages: &Pages, page: u64, place: u64) -> Option<FreeFault> {
-    let word = slab(pages, descriptor_of(page));
+    let word = slab(pages, offset_of(page));
     if place != 0 {
         Some(FreeFault::WrongChunk)
     } else if word < 1 << 63 {

@@ -8,8 +8,8 @@ ghost use Rattle.slab_model.specs.Return.{give_pages as given_pages};
 ghost use Rattle.slab_pool.specs.Pool.{LaysPool};
 ghost use Rattle.slab_pool.specs.Live.{KeepsPages};
 
-use crate::places::{descriptor_of, offset_of, slab};
-use slab_pages::{Page, Pages};
+use crate::places::{page_offset, slab};
+use slab_pages::{Page, Pages, offset_of};
 use zone_region::Block;
 
 /// Marks the number of pages in the first descriptor of a used run.
@@ -28,7 +28,7 @@ pub(crate) fn grant_run(pages: &mut Pages, count: u64) -> Option<Block>
     match pages.take(count) {
         None => None,
         Some(page) => Some(Block {
-            at: offset_of(pages, page.number),
+            at: page_offset(pages, page.number),
         }),
     }
 }
@@ -40,6 +40,6 @@ pub(crate) fn give_run(pages: &mut Pages, page: u64)
         LaysPool pages.new (given_pages slab page count) }
     ensures kept { KeepsPages pages.old pages.new }
 {
-    let count = slab(pages, descriptor_of(page)) - USED;
+    let count = slab(pages, offset_of(page)) - USED;
     pages.put(Page { number: page }, count);
 }

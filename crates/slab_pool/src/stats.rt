@@ -1,6 +1,5 @@
 use slab_model::Stat;
-use slab_pages::Pages;
-use slab_pages::places::stat_at;
+use slab_pages::{Pages, stat_at};
 
 // The statistics of a class.
 pub(crate) fn stat(pages: &Pages, class: u32) -> Stat {

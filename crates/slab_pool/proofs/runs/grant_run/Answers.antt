@@ -2,8 +2,8 @@ use Rattle.std.proofs.Common.{◌≡◌, ℕ, ◌<◌, ◌≤◌, Some, None, Op
 use Rattle.slab_pool.proofs.RunLemmas.{pool-runs, keeps-pages, keeps-same, run-granted, run-refused, fit-room}
 use Rattle.slab_pool.proofs.runs.grant_run.Goals as goal
 
-pub offset_of-requires : goal.offset_of-requires
-offset_of-requires c = let p = c.requires.laid.1 in fit-room _ _ _ _ p c.requires.some (c.in-Some.ensures.page _ (pool-runs _ _ p))
+pub page_offset-requires : goal.page_offset-requires
+page_offset-requires c = let p = c.requires.laid.1 in fit-room _ _ _ _ p c.requires.some (c.in-Some.ensures.page _ (pool-runs _ _ p))
 
 pub returns-in-None-clause-laid : goal.returns-in-None-clause-laid
 returns-in-None-clause-laid c = λ slab p. run-refused _ _ slab _ p (c.in-None.ensures.page _ (pool-runs _ _ p)) c.in-None.ensures.none
