@@ -1,16 +1,16 @@
 -- A page's bits, for all three kinds at once.
-use Rattle.std.proofs.Common.{ℕ, ◌≡◌, ◌≢◌, ◌⊎◌, ◌↔◌, ◌+◌, ◌*◌, ◌-◌, ◌/◌, ◌%◌, ◌^◌, ◌<◌, ◌≤◌, Bool, true, false, not, ◌&&◌, ◌||◌, eqb, IsBitSet, bit_and, bit_or, List, get_or, sym, ap, subst, ◌∙◌, refl, arith, inl, inr}
+use Rattle.std.proofs.Common.{ℕ, ◌≡◌, ◌≢◌, ◌⊎◌, ◌↔◌, ◌+◌, ◌*◌, ◌/◌, ◌%◌, ◌^◌, ◌<◌, ◌≤◌, true, not, ◌&&◌, ◌||◌, eqb, IsBitSet, bit_and, bit_or, List, get_or, sym, ap, subst, ◌∙◌, refl, arith, inl, inr}
 use Rattle.std.specs.Int.{bit_at, bit_not, w64}
-use Rattle.std.proofs.lemmas.Bool.{cases_lt, cases_eq, cases_Bool}
+use Rattle.std.proofs.lemmas.Bool.{cases_lt, cases_eq}
 use Rattle.std.proofs.lemmas.Grind.{common_steps}
-use Rattle.std.proofs.lemmas.Nat.Bits.{bit_at-lt, bit_at_above, bit_at_set_same, bit_at_set_other, bit_at_clear_same, bit_at_clear_other, bit_at_ones, bit_at_ones_above, same_from_bits_below}
+use Rattle.std.proofs.lemmas.Nat.Bits.{bit_at_above, bit_at_set_same, bit_at_set_other, bit_at_clear_same, bit_at_clear_other}
 use Rattle.slab_model.specs.declared.shape.Shape.{Shape}
-use Rattle.slab_model.specs.Geometry.{Kind, small, exact, big, kind_of, class_count, first_index, blocks_in_page}
+use Rattle.slab_model.specs.Geometry.{Kind, small, exact, big, kind_of, first_index, blocks_in_page}
 use Rattle.slab_model.specs.Numbers.{is_member}
 use Rattle.zone_region.specs.Members.{In}
 use Rattle.slab_model.proofs.NumberLemmas.{member}
-use Rattle.slab_pages.specs.Places.{page_word, bitmap_words, descriptor, slab_at}
-use Rattle.slab_pages.specs.SlabLayout.{LaysBits, LaysSmallBits, LaysExactBits, LaysBigBits}
+use Rattle.slab_pages.specs.Places.{page_word, bitmap_words}
+use Rattle.slab_pages.specs.SlabLayout.{LaysBits, LaysSmallBits}
 use Rattle.slab_pool.specs.Bits.{bits_word, bits_limit, HasShift, IsBitsWord, HasBits}
 use Rattle.slab_pool.proofs.WordLemmas.{bit_set}
 use Rattle.slab_pool.proofs.KindLemmas.{kind-small, kind-exact, kind-big, numbers, small_words, one_word}
@@ -97,11 +97,11 @@ laid_of : (kind : Kind) (words : List ℕ) (shape : Shape) (page class : ℕ) (u
 laid_of small words shape page class used known kind shift bits = record {
   shift = shift;
   bits = λ index below. let b = bits (index / 64) (word_in index below) in let place : 64 * (index / 64) + index % 64 ≡ index = omega arith in (
-      λ s. elim (b.set (index % 64) (omega arith) ((bit_set _ _).0 s)) [ inl own ↦ inl (omega (arith, own, place)) | inr there ↦ inr (subst (λ (i : ℕ). In i used) place ((member _ _).0 there)) ],
-      λ m. elim m [
-        | inl own ↦ (bit_set _ _).1 (b.own (index % 64) (omega arith) (omega (arith, own, place)))
-        | inr there ↦ (bit_set _ _).1 (b.used_set (index % 64) (omega arith) ((member _ _).1 (subst (λ (i : ℕ). In i used) (sym place) there)))
-      ],
+    λ s. elim (b.set (index % 64) (omega arith) ((bit_set _ _).0 s)) [ inl own ↦ inl (omega (arith, own, place)) | inr there ↦ inr (subst (λ (i : ℕ). In i used) place ((member _ _).0 there)) ],
+    λ m. elim m [
+      | inl own ↦ (bit_set _ _).1 (b.own (index % 64) (omega arith) (omega (arith, own, place)))
+      | inr there ↦ (bit_set _ _).1 (b.used_set (index % 64) (omega arith) ((member _ _).1 (subst (λ (i : ℕ). In i used) (sym place) there)))
+    ],
   );
 } where
   word_in : (index : ℕ) → index < blocks_in_page shape class → index / 64 < bitmap_words shape class
@@ -126,8 +126,8 @@ laid_of big words shape page class used known kind shift bits =
     record {
       shift = shift;
       bits = λ index below. (
-          λ s. elim (b.set index (omega (arith, below)) ((bit_set _ _).0 s)) [ inl own ↦ absurd (omega (arith, own, one.1)) | inr there ↦ subst (λ (i : ℕ). In i used) (index_is index) ((member _ _).0 there) ],
-          λ m. (bit_set _ _).1 (b.used_set index (omega (arith, below)) ((member _ _).1 (subst (λ (i : ℕ). In i used) (sym (index_is index)) m))),
+        λ s. elim (b.set index (omega (arith, below)) ((bit_set _ _).0 s)) [ inl own ↦ absurd (omega (arith, own, one.1)) | inr there ↦ subst (λ (i : ℕ). In i used) (index_is index) ((member _ _).0 there) ],
+        λ m. (bit_set _ _).1 (b.used_set index (omega (arith, below)) ((member _ _).1 (subst (λ (i : ℕ). In i used) (sym (index_is index)) m))),
       );
     } where
       high : (class : ℕ) → class < 9 → kind_of shape class ≡ big → 3 < class

@@ -1,30 +1,24 @@
 -- The words of live blocks: where they stand, and which changes leave them.
-use Rattle.std.proofs.Common.{ℕ, ◌≡◌, ◌≢◌, ◌⊎◌, ◌↔◌, ◌+◌, ◌*◌, ◌-◌, ◌/◌, ◌%◌, ◌<◌, ◌≤◌, Bool, true, false, ◌&&◌, ◌||◌, eqb, leb, ltb, cond, List, [], ◌∷◌, length, get_or, set, take, drop, sym, ap, subst, ◌∙◌, refl, arith, inl, inr, get_or-set_same, get_or-set_other}
-use Rattle.std.proofs.lemmas.Bool.{agree_below_at, cases_lt, cases_eq, cases_Bool}
-use Rattle.std.proofs.lemmas.List.{length-set, get_or-take, get_or-drop, same_lists, get_or_default}
-use Rattle.std.proofs.lemmas.List.Edits.{length-between, get_or-between}
+use Rattle.std.proofs.Common.{ℕ, ◌≡◌, ◌+◌, ◌*◌, ◌-◌, ◌/◌, ◌%◌, ◌<◌, ◌≤◌, Bool, true, false, ◌&&◌, eqb, leb, ltb, List, [], ◌∷◌, length, get_or, take, drop, sym, ap, subst, ◌∙◌, refl, arith, inl, inr}
+use Rattle.std.proofs.lemmas.Bool.{agree_below_at, cases_eq}
+use Rattle.std.proofs.lemmas.List.{get_or-take, get_or-drop, same_lists, get_or_default}
+use Rattle.std.proofs.lemmas.List.Edits.{length-between}
 use Rattle.std.proofs.Math.Nat.{mul-le-mul_left}
 use Rattle.std.proofs.lemmas.Grind.{common_steps}
-use Rattle.zone_region.specs.Words.{Words, word_at, SetsWord}
-use Rattle.slab_model.specs.declared.page.PageState.{PageState}
-use Rattle.slab_model.specs.declared.page.PageState.TheVariants.{Free, First, Later, Class}
 use Rattle.slab_model.specs.declared.shape.Shape.{Shape}
-use Rattle.slab_model.specs.Geometry.{Kind, small, exact, big, kind_of, class_size, blocks_in_page, first_index, start_of, pages_of, page_offset, block_offset}
-use Rattle.slab_model.specs.Numbers.{is_member}
-use Rattle.zone_region.specs.Members.{In}
-use Rattle.slab_model.specs.State.{Slab, page_at}
+use Rattle.slab_model.specs.Geometry.{kind_of, class_size, blocks_in_page, first_index, start_of, pages_of, page_offset}
+use Rattle.slab_model.specs.State.{Slab}
 use Rattle.slab_model.specs.Blocks.{IsLive, live_bytes, page_number, place_in_page}
-use Rattle.slab_model.specs.Soundness.{IsSound, AreUsed}
 use Rattle.slab_model.proofs.ClassLemmas.{cuts, zone}
 use Rattle.slab_model.proofs.BlockLemmas.{Lies, in_page, over_pages, lies, page_number-is, place_in_page-is, block_end}
 use Rattle.slab_model.proofs.BlockLaws.{blocks-law}
 use Rattle.slab_model.proofs.StateLemmas.{used-usable}
 use Rattle.slab_model.proofs.NumberLemmas.{member}
-use Rattle.slab_pages.specs.Places.{Image, bitmap_words, descriptor, descriptor_word}
+use Rattle.slab_pages.specs.Places.{Image, bitmap_words, descriptor_word}
 use Rattle.slab_pages.specs.SlabLayout.{type_of}
 use Rattle.slab_pool.specs.Pool.{LaysPool}
-use Rattle.slab_pool.specs.Live.{page_type, class_in, bytes_at, block_words, is_bitmap_word, KeepsPages, GrantsWords, ReturnsWords, SameBlockWords}
-use Rattle.slab_pool.proofs.BitLemmas.{KindAt, at_small, at_exact, at_big, kind_at}
+use Rattle.slab_pool.specs.Live.{page_type, class_in, bytes_at, block_words, is_bitmap_word, KeepsPages}
+use Rattle.slab_pool.proofs.BitLemmas.{at_small, at_exact, at_big, kind_at}
 use Rattle.slab_pool.proofs.DecodeLemmas.{class-type, class_in-class, first-type, later-type, bytes_at-is}
 
 -- ---- a word of a page
@@ -90,17 +84,20 @@ block_in_page : (image : Image) (slab : Slab) (at i : ℕ) → LaysPool image sl
 block_in_page image slab at i p room (in_page page class used index is ok there at_is bytes) inside =
     let c = cuts slab.shape class ok.known in
     let end = block_end (class_size class) index (blocks_in_page slab.shape class) c.whole (used-usable slab.shape class index used ok ((member index used).0 there)).1 in
-    let offset = ap (λ (n : Shape). page_offset n page) p.shape_is in
-    (page, class_size class * index + 8 * i, record {
-      at = omega (arith, room.even, at_is, offset);
-      fits = omega (arith, end, inside, bytes);
-      none = λ type.
-          let kind = small_type class ok.known (sym (class-type image slab page class used p is) ∙ type) in
-          let first = mul-le-mul_left (class_size class) (used-usable slab.shape class index used ok ((member index used).0 there)).0 in
-          let map = bitmap_first slab.shape class kind in
-          let same = ap (λ k. bitmap_words image.shape k) (class_in-class image slab page class used p is) ∙ ap (λ (n : Shape). bitmap_words n class) (sym p.shape_is) in
-          omega (arith, first, map, same);
-    }) where
+    let offset = ap (λ (n : Shape). page_offset n page) p.shape_is in (
+      page,
+      class_size class * index + 8 * i,
+      record {
+        at = omega (arith, room.even, at_is, offset);
+        fits = omega (arith, end, inside, bytes);
+        none = λ type.
+            let kind = small_type class ok.known (sym (class-type image slab page class used p is) ∙ type) in
+            let first = mul-le-mul_left (class_size class) (used-usable slab.shape class index used ok ((member index used).0 there)).0 in
+            let map = bitmap_first slab.shape class kind in
+            let same = ap (λ k. bitmap_words image.shape k) (class_in-class image slab page class used p is) ∙ ap (λ (n : Shape). bitmap_words n class) (sym p.shape_is) in
+            omega (arith, first, map, same);
+      },
+    ) where
       small_type : (class : ℕ) → class < 9 → type_of (kind_of slab.shape class) ≡ 3 → class < 3
       small_type class known t = elim (kind_at slab.shape class known) [
         | at_small low kind ↦ low
@@ -110,12 +107,15 @@ block_in_page image slab at i p room (in_page page class used index is ok there 
 block_in_page image slab at i p room (over_pages page count is at_is bytes) inside =
     let offset = ap (λ (n : Shape). page_offset n page) p.shape_is in
     let more = ap (λ (n : Shape). start_of n) p.shape_is in
-    let q : ℕ = page + 8 * i / 4096 in
-    (q, 8 * i % 4096, record {
-      at = omega (arith, room.even, at_is, offset, more);
-      fits = omega arith;
-      none = λ type. absurd (whole (8 * i / 4096) (omega (arith, inside, bytes)) type);
-    }) where
+    let q : ℕ = page + 8 * i / 4096 in (
+      q,
+      8 * i % 4096,
+      record {
+        at = omega (arith, room.even, at_is, offset, more);
+        fits = omega arith;
+        none = λ type. absurd (whole (8 * i / 4096) (omega (arith, inside, bytes)) type);
+      },
+    ) where
       whole : (k : ℕ) → k < count → page_type image.words (page + k) ≡ 3 → ⊥
       whole k low type = elim (cases_eq k 0) [
         | inl e ↦ let here : page + k ≡ page = omega (arith, e) in let t = ap (λ n. page_type image.words n) here ∙ (first-type image slab page count p is).0 in omega (arith, t, type)
@@ -161,11 +161,11 @@ same-block old new before after at p q bytes same =
     same_lists (block_words new at) (block_words old at)
     (length-block new after at q ∙ ap (λ n. n / 8) bytes ∙ sym (length-block old before at p))
     (λ k d low.
-        let inside : k < live_bytes before at / 8 = omega (arith, low, length-block new after at q, bytes) in
-        let here : k < live_bytes after at / 8 = omega (arith, inside, bytes) in
-        get_or_default (block_words new at) k d 0 low
-        ∙ word-block new after at k q here ∙ same k inside ∙ sym (word-block old before at k p inside)
-        ∙ get_or_default (block_words old at) k 0 d (omega (arith, inside, length-block old before at p)))
+    let inside : k < live_bytes before at / 8 = omega (arith, low, length-block new after at q, bytes) in
+    let here : k < live_bytes after at / 8 = omega (arith, inside, bytes) in
+    get_or_default (block_words new at) k d 0 low
+    ∙ word-block new after at k q here ∙ same k inside ∙ sym (word-block old before at k p inside)
+    ∙ get_or_default (block_words old at) k 0 d (omega (arith, inside, length-block old before at p)))
 
 -- no block is live where the slab has none
 pub no-block : (image : Image) (slab : Slab) (at : ℕ) → LaysPool image slab → live_bytes slab at ≡ 0 → block_words image at ≡ []

@@ -1,5 +1,5 @@
 -- What the words of a pool tell of its pages and blocks.
-use Rattle.std.proofs.Common.{ℕ, ◌≡◌, ◌≢◌, ◌⊎◌, ◌↔◌, ◌+◌, ◌*◌, ◌-◌, ◌/◌, ◌%◌, ◌^◌, ◌<◌, ◌≤◌, Bool, true, false, not, ◌&&◌, ◌||◌, eqb, leb, ltb, cond, IsBitSet, List, [], ◌∷◌, length, get_or, sym, ap, subst, ◌∙◌, refl, arith, inl, inr}
+use Rattle.std.proofs.Common.{ℕ, ◌≡◌, ◌≢◌, ◌⊎◌, ◌↔◌, ◌+◌, ◌-◌, ◌/◌, ◌%◌, ◌^◌, ◌<◌, ◌≤◌, true, false, not, ◌&&◌, ◌||◌, eqb, leb, ltb, cond, List, [], ◌∷◌, sym, ap, subst, ◌∙◌, refl, arith, inl, inr}
 use Rattle.std.specs.Int.{bit_at}
 use Rattle.std.proofs.lemmas.Bool.{cases_lt, cases_eq, cases_Bool}
 use Rattle.std.proofs.lemmas.List.{get_or_past}
@@ -9,21 +9,21 @@ use Rattle.slab_model.specs.declared.runs.Run.{Run}
 use Rattle.slab_model.specs.declared.page.PageState.{PageState}
 use Rattle.slab_model.specs.declared.page.PageState.TheVariants.{Free, First, Later, Class}
 use Rattle.slab_model.specs.declared.shape.Shape.{Shape}
-use Rattle.slab_model.specs.Geometry.{Kind, small, exact, big, kind_of, class_count, class_size, first_index, blocks_in_page, start_of, pages_of}
+use Rattle.slab_model.specs.Geometry.{Kind, small, exact, big, kind_of, class_size, first_index, blocks_in_page, start_of, pages_of}
 use Rattle.slab_model.specs.Numbers.{is_member}
 use Rattle.slab_model.specs.Runs.{AreSound, is_covered, is_within}
 use Rattle.zone_region.specs.Members.{In}
 use Rattle.slab_model.specs.State.{Slab, page_at, list_of}
 use Rattle.slab_model.specs.Blocks.{is_full, live_bytes, live_in_page, page_number, place_in_page}
 use Rattle.slab_model.specs.Counting.{is_free}
-use Rattle.slab_model.specs.Soundness.{IsSound, has_room}
+use Rattle.slab_model.specs.Soundness.{has_room}
 use Rattle.slab_model.proofs.ClassLemmas.{cuts, zone}
-use Rattle.slab_model.proofs.StateLemmas.{has_room-own, page_at-in, used-usable}
+use Rattle.slab_model.proofs.StateLemmas.{has_room-own, used-usable}
 use Rattle.slab_model.proofs.NumberLemmas.{member}
 use Rattle.slab_model.proofs.BlockLemmas.{live_bytes-low, live_bytes-in, offset_is}
-use Rattle.slab_pages.specs.Places.{Image, class_head, free_head, descriptor, slab_at, prev_at, page_word, HasWords}
+use Rattle.slab_pages.specs.Places.{Image, class_head, free_head, descriptor, slab_at, prev_at}
 use Rattle.slab_pages.specs.Layout.{HasTail, LaysFrom}
-use Rattle.slab_pages.specs.SlabLayout.{LaysSlab, LaysPages, LaysBits, LaysSmallBits, LaysExactBits, LaysBigBits, type_of}
+use Rattle.slab_pages.specs.SlabLayout.{LaysPages, LaysBits, type_of}
 use Rattle.slab_pool.specs.Bits.{bits_word}
 use Rattle.slab_pool.specs.Pool.{LaysPool}
 use Rattle.slab_pool.specs.Live.{page_type, class_in, run_bytes, is_used_at, class_bytes, bytes_in_page, bytes_at}

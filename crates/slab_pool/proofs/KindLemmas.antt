@@ -1,11 +1,10 @@
 -- The kinds of the nine classes.
-use Rattle.std.proofs.Common.{ℕ, ◌≡◌, ◌≢◌, ◌+◌, ◌*◌, ◌-◌, ◌/◌, ◌<◌, ◌≤◌, Bool, true, false, ◌&&◌, ◌||◌, leb, ltb, eqb, cond, ap, ◌∙◌, refl, arith}
+use Rattle.std.proofs.Common.{ℕ, ◌≡◌, ◌+◌, ◌*◌, ◌<◌, ◌≤◌, Bool, true, ◌&&◌, ◌||◌, leb, ltb, eqb, refl, arith}
 use Rattle.std.proofs.lemmas.Bool.{agree_below_at}
 use Rattle.std.proofs.lemmas.Grind.{common_steps}
 use Rattle.slab_model.specs.declared.shape.Shape.{Shape}
-use Rattle.slab_model.specs.Geometry.{Kind, small, exact, big, kind_of, class_size, blocks_in_page, first_index, usable_blocks}
+use Rattle.slab_model.specs.Geometry.{small, exact, big, kind_of, class_size, blocks_in_page, first_index, usable_blocks}
 use Rattle.slab_pages.specs.Places.{bitmap_words}
-use Rattle.slab_pages.specs.SlabLayout.{type_of}
 
 many_blocks : (shape : Shape) (class : ℕ) → class < 9 → ltb 64 (blocks_in_page shape class) ≡ ltb class 3
 unfolding blocks_in_page class_size

@@ -7,3 +7,5 @@ pub mod BlockWords
 pub mod RestLemmas
 pub mod RunLemmas
 pub mod PoolLemmas
+pub mod GrantLemmas
+pub mod ReturnLemmas

@@ -1,10 +1,9 @@
 -- A page leaves a class's list, and comes to its head.
-use Rattle.std.proofs.Common.{ℕ, ◌≡◌, ◌≢◌, ◌⊎◌, ◌+◌, ◌*◌, ◌-◌, ◌/◌, ◌%◌, ◌<◌, ◌≤◌, List, [], ◌∷◌, ◌++◌, length, get_or, sym, ap, subst, ◌∙◌, refl, arith, inl, inr}
+use Rattle.std.proofs.Common.{ℕ, ◌≡◌, ◌≢◌, ◌⊎◌, ◌+◌, ◌/◌, ◌%◌, ◌<◌, ◌≤◌, List, [], ◌∷◌, ◌++◌, sym, ap, subst, ◌∙◌, refl, arith, inl, inr}
 use Rattle.std.proofs.lemmas.Bool.{cases_eq, cases_lt}
 use Rattle.zone_region.specs.Members.{In, IsDistinct}
-use Rattle.zone_region.proofs.MembersLemmas.{In-append_left, In-append_right, In-append_cases, In-middle, In-more, IsDistinct-split}
-use Rattle.slab_model.specs.Geometry.{class_count}
-use Rattle.slab_pages.specs.Places.{class_head, head_word, descriptor, descriptor_word, slab_at, next_at, prev_at}
+use Rattle.zone_region.proofs.MembersLemmas.{In-middle}
+use Rattle.slab_pages.specs.Places.{class_head, descriptor, next_at, prev_at}
 use Rattle.slab_pages.proofs.PlaceLemmas.{descriptor-word, descriptor-injective}
 use Rattle.slab_pool.specs.Links.{Linked, IsNode, LinksPages}
 

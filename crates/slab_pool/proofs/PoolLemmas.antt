@@ -4,10 +4,10 @@ use Rattle.std.proofs.lemmas.List.{length-set, same_lists, get_or_default, lengt
 use Rattle.std.proofs.lemmas.Bool.{cases_eq, cases_lt}
 use Rattle.std.proofs.lemmas.Grind.{common_steps}
 use Rattle.zone_region.specs.declared.blocks.Block.{Block}
-use Rattle.zone_region.specs.Words.{Words, SetsWord}
+use Rattle.zone_region.specs.Words.{SetsWord}
 use Rattle.slab_model.specs.declared.shape.Shape.{Shape}
 use Rattle.slab_model.specs.Geometry.{IsInLimits, start_of, pages_of}
-use Rattle.slab_model.specs.State.{Slab, pages_in, fresh_slab}
+use Rattle.slab_model.specs.State.{Slab, fresh_slab}
 use Rattle.slab_model.specs.Blocks.{IsLive, live_bytes}
 use Rattle.slab_model.specs.Grant.{grant, block_bytes}
 use Rattle.slab_model.specs.Return.{give_back}
@@ -15,17 +15,17 @@ use Rattle.slab_model.specs.Inside.{offset_of}
 use Rattle.slab_model.proofs.ClassLemmas.{zone}
 use Rattle.slab_model.proofs.BlockLaws.{grant-grants, grant-none, give_back-returns, fresh-law, blocks-law}
 use Rattle.slab_pages.specs.Places.{Image, log_ctx_word, data_word, descriptor_word}
-use Rattle.slab_pages.specs.Frames.{ChangesFrom, SameLaid}
 use Rattle.slab_pages.specs.Layout.{LaysRuns, MaySet}
 use Rattle.slab_pages.specs.SlabLayout.{IsOpened}
-use Rattle.slab_pages.proofs.SetLemmas.{may_set-past, may_set-before}
+use Rattle.slab_pages.proofs.SetLemmas.{may_set-past}
+use Rattle.slab_model.specs.declared.runs.Run.{Run}
 use Rattle.slab_pages.proofs.FrameLemmas.{LaysSlab-kept, pages-behind}
 use Rattle.slab_pool.specs.Pool.{LaysPool}
-use Rattle.slab_pool.specs.Live.{block_words, bytes_at, is_bitmap_word, rest_of, KeepsPages, KeepsPagesBut, ClearsWords, GrantsWords, ReturnsWords, SameBlockWords}
-use Rattle.slab_pool.proofs.DecodeLemmas.{bytes_at-is}
-use Rattle.slab_pool.proofs.BlockWords.{block_word, block_room, kept-block, live-block, no-block, length-block, word-block, same-block}
-use Rattle.slab_pool.proofs.RestLemmas.{rest-set, rest-laid, bitmap-belongs, few_words}
+use Rattle.slab_pool.specs.Live.{block_words, is_bitmap_word, KeepsPages, KeepsPagesBut, ClearsWords, GrantsWords, ReturnsWords, SameBlockWords}
+use Rattle.slab_pool.proofs.BlockWords.{block_word, block_room, kept-block, no-block, length-block, word-block, same-block}
+use Rattle.slab_pool.proofs.RestLemmas.{same-bitmap, rest-set, rest-laid, bitmap-belongs, few_words}
 use Rattle.slab_pool.proofs.RunLemmas.{pool-runs}
+use Rattle.slab_pool.proofs.GrantLemmas.{block_bytes-some, block_bytes-shape}
 
 -- ---- opening
 
@@ -80,11 +80,11 @@ set-words old new slab at i v p low is =
       changed = same_lists (block_words new at) (set (block_words old at) i v)
           (length-block new slab at q ∙ sym (length-set (block_words old at) i v ∙ length-block old slab at p))
           (λ k d l.
-              let inside : k < live_bytes slab at / 8 = omega (arith, l, length-block new slab at q) in
-              let long = length-set (block_words old at) i v in
-              get_or_default (block_words new at) k d 0 l
-              ∙ word-block new slab at k q inside ∙ ap (λ ws. get_or ws (at / 8 + k) 0) words ∙ here k inside (cases_eq k i)
-              ∙ get_or_default (set (block_words old at) i v) k 0 d (omega (arith, inside, long, length-block old slab at p)));
+          let inside : k < live_bytes slab at / 8 = omega (arith, l, length-block new slab at q) in
+          let long = length-set (block_words old at) i v in
+          get_or_default (block_words new at) k d 0 l
+          ∙ word-block new slab at k q inside ∙ ap (λ ws. get_or ws (at / 8 + k) 0) words ∙ here k inside (cases_eq k i)
+          ∙ get_or_default (set (block_words old at) i v) k 0 d (omega (arith, inside, long, length-block old slab at p)));
       others = λ other ne. same-block old new slab slab other p q refl (λ k l. ap (λ ws. get_or ws (other / 8 + k) 0) words ∙ get_or-set_other old.words (at / 8 + i) (other / 8 + k) v 0 (apart other k ne l));
     } where
       here : (k : ℕ) → k < live_bytes slab at / 8 → (k ≡ i) ⊎ (k ≢ i) → get_or (set old.words (at / 8 + i) v) (at / 8 + k) 0 ≡ get_or (set (block_words old at) i v) k 0
@@ -136,8 +136,8 @@ pub cleared-words : (old new : Image) (slab : Slab) (at : ℕ) → LaysPool old 
 cleared-words old new slab at p live c =
     let q = cleared-pool old new slab at p live c in (
       same_lists (block_words new at) (replicate (live_bytes slab at / 8) 0)
-      (length-block new slab at q ∙ sym (length-replicate (live_bytes slab at / 8) 0))
-      (λ k d l.
+          (length-block new slab at q ∙ sym (length-replicate (live_bytes slab at / 8) 0))
+          (λ k d l.
           let inside : k < live_bytes slab at / 8 = omega (arith, l, length-block new slab at q) in
           get_or_default (block_words new at) k d 0 l ∙ word-block new slab at k q inside ∙ c.cleared (at / 8 + k) (omega arith) (omega (arith, inside)) ∙ sym (get_or-replicate (live_bytes slab at / 8) k 0 d inside)),
       λ other ne. same-block old new slab slab other p q refl (λ k l. c.changes.others (other / 8 + k) (outside other k ne l)),
@@ -187,3 +187,102 @@ root-set_words old mid new slab a b at p first second = let o = root-others old 
 
 pub place-fits : (image : Image) (slab : Slab) (at i : ℕ) → LaysPool image slab → i < length (block_words image at) → at / 8 + i < 2 ^ 64
 place-fits image slab at i p low = let h = (place-word image slab at i p low).0 in let sized = p.laid.runs.sized in let limits = p.sound.limits in omega (arith, h, sized, limits.small)
+
+-- ---- the loop that clears words
+
+-- the number of words is small
+pub words-few : (image : Image) (runs : List Run) (from count : ℕ) → IsInLimits image.shape → LaysRuns image runs → from + count ≤ length image.words → from + count < 2 ^ 64
+words-few image runs from count limits h within = omega (arith, h.sized, within, limits.small)
+
+pub clears-may_set : (old now : Image) (runs : List Run) (from count w : ℕ) → LaysRuns now runs → ClearsWords old now from (w - from) → descriptor_word (pages_of old.shape) ≤ from → from ≤ w → w < from + count → from + count ≤ length old.words → MaySet now w
+clears-may_set old now runs from count w h c behind low high within = may_set-past now runs w h (omega (arith, c.changes.same_length, high, within)) (omega (arith, behind, low, ap (λ (s : Shape). pages_of s) c.shape_is))
+
+pub clears-more : (old now new : Image) (from w : ℕ) → ClearsWords old now from (w - from) → from ≤ w → w < length now.words → new ≡ record { shape = now.shape; words = set now.words w 0 } → ClearsWords old new from (w + 1 - from)
+clears-more old now new from w c low inside is =
+    let words : new.words ≡ set now.words w 0 = ap (λ (i : Image). i.words) is in
+    record {
+      shape_is = ap (λ (i : Image). i.shape) is ∙ c.shape_is;
+      changes = record {
+        same_length = ap (λ ws. length ws) words ∙ length-set now.words w 0 ∙ c.changes.same_length;
+        others = λ x out. ap (λ ws. get_or ws x 0) words ∙ get_or-set_other now.words w x 0 0 (λ e. elim out [ inl l ↦ omega (arith, l, e, low) | inr g ↦ omega (arith, g, e, low) ]) ∙ c.changes.others x (elim out [ inl l ↦ inl l | inr g ↦ inr (omega (arith, g, low)) ]);
+      };
+      cleared = λ x a b. ap (λ ws. get_or ws x 0) words ∙ at x a b (cases_eq x w);
+    } where
+      at : (x : ℕ) → from ≤ x → x < from + (w + 1 - from) → (x ≡ w) ⊎ (x ≢ w) → get_or (set now.words w 0) x 0 ≡ 0
+      at x a b (inl e) = ap (λ n. get_or (set now.words w 0) n 0) e ∙ get_or-set_same now.words w 0 0 inside
+      at x a b (inr ne) = get_or-set_other now.words w x 0 0 ne ∙ c.cleared x a (omega (arith, b, ne, low))
+
+pub clears-none : (old : Image) (from : ℕ) → ClearsWords old old from (from - from)
+clears-none old from = record { shape_is = refl; changes = record { same_length = refl; others = λ x out. refl }; cleared = λ x a b. absurd (omega (arith, a, b)) }
+
+pub clears-all : (old new : Image) (from count n : ℕ) → n ≡ count → ClearsWords old new from n → ClearsWords old new from count
+clears-all old new from count n e c = subst (λ (k : ℕ). ClearsWords old new from k) e c
+
+-- where the words of a block that was granted for so many bytes stand
+pub block-range : (image : Image) (slab : Slab) (at size bytes : ℕ) → LaysPool image slab → 0 < size → live_bytes slab at ≡ block_bytes slab size → bytes ≡ block_bytes slab size → (descriptor_word (pages_of image.shape) ≤ at / 8) × (at / 8 + bytes / 8 ≤ length image.words)
+block-range image slab at size bytes p some is read =
+    let live : IsLive slab at = omega (arith, is, block_bytes-some slab size some) in
+    let room = block_room image slab at p live in
+    let z = zone slab.shape p.sound.limits in
+    (omega (arith, room.behind, room.even, z.behind, ap (λ (s : Shape). start_of s) p.shape_is, ap (λ (s : Shape). pages_of s) p.shape_is), omega (arith, room.fits, is, read))
+
+-- ---- a grant whose block is cleared
+
+-- what the two steps leave
+pub record Callocs (old mid new : Image) (slab : Slab) (size at : ℕ) : Type 0 where
+  pub before : LaysPool old slab
+  pub some : 0 < size
+  pub after : LaysPool mid (grant slab size).1
+  pub given : (grant slab size).0 ≡ Some at
+  pub kept : KeepsPages old mid
+  pub clears : (t : Slab) → LaysPool mid t → ClearsWords mid new (at / 8) (block_bytes t size / 8)
+
+granted-shape : (old mid : Image) (a b : Slab) → LaysPool old a → LaysPool mid b → KeepsPages old mid → b.shape ≡ a.shape
+granted-shape old mid a b p q kept = q.shape_is ∙ kept.shape_is ∙ sym p.shape_is
+
+pub granted-bytes : (old mid : Image) (slab : Slab) (size at : ℕ) → LaysPool old slab → 0 < size → LaysPool mid (grant slab size).1 → (grant slab size).0 ≡ Some at → KeepsPages old mid → live_bytes (grant slab size).1 at ≡ block_bytes (grant slab size).1 size
+granted-bytes old mid slab size at p some q given kept = (grant-grants slab size at p.sound some given).0.bytes ∙ sym (block_bytes-shape (grant slab size).1 slab size (granted-shape old mid slab (grant slab size).1 p q kept))
+
+-- the block that was cleared
+calloc-clears : (old mid new : Image) (slab : Slab) (size at : ℕ) → Callocs old mid new slab size at → ClearsWords mid new (at / 8) (live_bytes (grant slab size).1 at / 8)
+calloc-clears old mid new slab size at h = subst (λ (n : ℕ). ClearsWords mid new (at / 8) (n / 8)) (sym (granted-bytes old mid slab size at h.before h.some h.after h.given h.kept)) (h.clears (grant slab size).1 h.after)
+
+calloc-live : (old mid new : Image) (slab : Slab) (size at : ℕ) → Callocs old mid new slab size at → IsLive (grant slab size).1 at
+calloc-live old mid new slab size at h = omega (arith, granted-bytes old mid slab size at h.before h.some h.after h.given h.kept, block_bytes-some (grant slab size).1 size h.some)
+
+calloc-bytes : (old mid new : Image) (slab : Slab) (size at : ℕ) → Callocs old mid new slab size at → live_bytes (grant slab size).1 at ≡ block_bytes slab size
+calloc-bytes old mid new slab size at h = (grant-grants slab size at h.before.sound h.some h.given).0.bytes
+
+pub calloc-laid : (old mid new : Image) (slab : Slab) (size at : ℕ) → Callocs old mid new slab size at → LaysPool new (grant slab size).1
+calloc-laid old mid new slab size at h = cleared-pool mid new (grant slab size).1 at h.after (calloc-live old mid new slab size at h) (calloc-clears old mid new slab size at h)
+
+pub calloc-words : (old mid new : Image) (slab : Slab) (size at : ℕ) → Callocs old mid new slab size at → GrantsWords (block_words old) (block_words new) at (block_bytes slab size / 8)
+calloc-words old mid new slab size at h =
+    let g = granted-words old mid slab size at h.before h.some h.after h.given h.kept in
+    let c = cleared-words mid new (grant slab size).1 at h.after (calloc-live old mid new slab size at h) (calloc-clears old mid new slab size at h) in
+    record {
+      fresh = g.fresh;
+      long = length-block new (grant slab size).1 at (calloc-laid old mid new slab size at h) ∙ ap (λ n. n / 8) (calloc-bytes old mid new slab size at h);
+      others = λ other ne. c.1 other ne ∙ g.others other ne;
+    }
+
+pub calloc-zeros : (old mid new : Image) (slab : Slab) (size at : ℕ) → Callocs old mid new slab size at → block_words new at ≡ replicate (block_bytes slab size / 8) 0
+calloc-zeros old mid new slab size at h =
+    let c = cleared-words mid new (grant slab size).1 at h.after (calloc-live old mid new slab size at h) (calloc-clears old mid new slab size at h) in
+    c.0 ∙ ap (λ n. replicate (n / 8) 0) (calloc-bytes old mid new slab size at h)
+
+pub calloc-keeps : (old mid new : Image) (slab : Slab) (size at : ℕ) → Callocs old mid new slab size at → KeepsPagesBut old new at (block_bytes slab size / 8)
+calloc-keeps old mid new slab size at h =
+    let c = calloc-clears old mid new slab size at h in
+    let bytes = calloc-bytes old mid new slab size at h in
+    let room = block_room mid (grant slab size).1 at h.after (calloc-live old mid new slab size at h) in
+    let z = zone (grant slab size).1.shape h.after.sound.limits in
+    let behind : descriptor_word (pages_of mid.shape) ≤ at / 8 = omega (arith, room.behind, room.even, z.behind, ap (λ (s : Shape). start_of s) h.after.shape_is, ap (λ (s : Shape). pages_of s) h.after.shape_is) in
+    let start = λ (w : ℕ) (low : w < descriptor_word (pages_of mid.shape)). c.changes.others w (inl (omega (arith, low, behind))) in
+    record {
+      shape_is = c.shape_is ∙ h.kept.shape_is;
+      same_length = c.changes.same_length ∙ h.kept.same_length;
+      pages = λ w past out a b. c.changes.others w (elim out [ inl l ↦ inl l | inr g ↦ inr (omega (arith, g, bytes)) ]) ∙ h.kept.pages w past a (sym (same-bitmap mid new w (record { shape_is = c.shape_is; low = start })) ∙ b);
+      log_ctx = start log_ctx_word (omega arith) ∙ h.kept.log_ctx;
+      data_is = start data_word (omega arith) ∙ h.kept.data_is;
+    }

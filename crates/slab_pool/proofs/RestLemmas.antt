@@ -1,30 +1,25 @@
 -- What a pool is but for the words of its blocks: a word of a live block doesn't belong to it, and it tells the slab.
-use Rattle.std.proofs.Common.{ℕ, ◌≡◌, ◌≢◌, ◌⊎◌, ◌+◌, ◌*◌, ◌-◌, ◌/◌, ◌%◌, ◌^◌, ◌<◌, ◌≤◌, zero, suc, Bool, true, false, ◌&&◌, ◌||◌, eqb, leb, ltb, cond, List, [], ◌∷◌, length, get_or, set, sym, ap, subst, ◌∙◌, refl, arith, inl, inr, get_or-set_same, get_or-set_other}
-use Rattle.std.proofs.lemmas.Bool.{agree_below_at, cases_lt, cases_eq, cases_Bool}
-use Rattle.std.proofs.lemmas.List.{length-set, same_lists, get_or_default, get_or_past}
+use Rattle.std.proofs.Common.{ℕ, ◌≡◌, ◌≢◌, ◌⊎◌, ◌+◌, ◌*◌, ◌-◌, ◌/◌, ◌%◌, ◌^◌, ◌<◌, ◌≤◌, zero, suc, Bool, true, false, ◌&&◌, ◌||◌, eqb, leb, ltb, cond, List, [], ◌∷◌, length, get_or, set, sym, ap, subst, ◌∙◌, refl, arith, inl, inr, get_or-set_other}
+use Rattle.std.proofs.lemmas.Bool.{cases_lt, cases_eq, cases_Bool}
+use Rattle.std.proofs.lemmas.List.{length-set, same_lists, get_or_default}
 use Rattle.std.proofs.lemmas.Grind.{common_steps}
-use Rattle.zone_region.specs.Words.{Words, word_at, SetsWord}
-use Rattle.slab_model.specs.declared.page.PageState.{PageState}
-use Rattle.slab_model.specs.declared.page.PageState.TheVariants.{Free, First, Later, Class}
+use Rattle.slab_model.specs.declared.page.PageState.TheVariants.{Class}
 use Rattle.slab_model.specs.declared.shape.Shape.{Shape}
-use Rattle.slab_model.specs.Geometry.{Kind, small, kind_of, blocks_in_page, start_of, pages_of, page_offset}
+use Rattle.slab_model.specs.Geometry.{small, kind_of, start_of, pages_of, page_offset}
 use Rattle.slab_model.specs.State.{Slab, page_at}
-use Rattle.slab_model.specs.Blocks.{IsLive, live_bytes, page_number, place_in_page}
-use Rattle.slab_model.specs.Soundness.{IsSound}
+use Rattle.slab_model.specs.Blocks.{live_bytes, page_number, place_in_page}
 use Rattle.slab_model.proofs.ClassLemmas.{zone}
-use Rattle.slab_model.proofs.BlockLemmas.{page_number-is, place_in_page-is, offset_is}
-use Rattle.slab_model.proofs.BlockLaws.{blocks-law}
-use Rattle.slab_pages.specs.Places.{Image, bitmap_words, descriptor, descriptor_word, page_word, slab_at, prev_at, log_ctx_word, data_word}
-use Rattle.slab_pages.specs.Frames.{SameFrom, SameLaid}
+use Rattle.slab_model.proofs.BlockLemmas.{page_number-is, place_in_page-is}
+use Rattle.slab_pages.specs.Places.{Image, bitmap_words, descriptor, descriptor_word, page_word, slab_at, log_ctx_word, data_word}
 use Rattle.slab_pages.specs.SlabLayout.{type_of}
 use Rattle.slab_pages.proofs.PlaceLemmas.{descriptor-word}
 use Rattle.slab_model.proofs.SoundLemmas.{class_page-in}
 use Rattle.slab_pages.proofs.FrameLemmas.{LaysSlab-kept}
 use Rattle.slab_pool.specs.Pool.{LaysPool}
-use Rattle.slab_pool.specs.Live.{page_type, class_in, bytes_at, block_words, is_bitmap_word, is_layout_word, layout_words, rest_of, KeepsPages}
+use Rattle.slab_pool.specs.Live.{page_type, class_in, is_bitmap_word, is_layout_word, layout_words, rest_of}
 use Rattle.slab_pool.proofs.DecodeLemmas.{class-type, class_in-class}
 use Rattle.slab_pool.proofs.KindLemmas.{numbers}
-use Rattle.slab_pool.proofs.BlockWords.{block_word, block_room, length-block, same-block, live-block, word-block}
+use Rattle.slab_pool.proofs.BlockWords.{block_word}
 
 -- ---- the list of these words
 
@@ -181,10 +176,10 @@ rest-set old new slab at i v p low is =
     (same_lists (layout_words new 0 new.words) (layout_words old 0 old.words)
     (length-layout new 0 new.words ∙ ap length words ∙ length-set old.words (at / 8 + i) v ∙ sym (length-layout old 0 old.words))
     (λ k d l.
-        let inside : k < length old.words = omega (arith, l, length-layout new 0 new.words, ap length words, length-set old.words (at / 8 + i) v) in
-        get_or_default (layout_words new 0 new.words) k d 0 l
-        ∙ get-layout_all new k ∙ here s words b.behind b.no_bits k (cases_eq k (at / 8 + i)) ∙ sym (get-layout_all old k)
-        ∙ get_or_default (layout_words old 0 old.words) k 0 d (omega (arith, inside, length-layout old 0 old.words)))) where
+    let inside : k < length old.words = omega (arith, l, length-layout new 0 new.words, ap length words, length-set old.words (at / 8 + i) v) in
+    get_or_default (layout_words new 0 new.words) k d 0 l
+    ∙ get-layout_all new k ∙ here s words b.behind b.no_bits k (cases_eq k (at / 8 + i)) ∙ sym (get-layout_all old k)
+    ∙ get_or_default (layout_words old 0 old.words) k 0 d (omega (arith, inside, length-layout old 0 old.words)))) where
       other : new.words ≡ set old.words (at / 8 + i) v → (w : ℕ) → w ≢ at / 8 + i → get_or new.words w 0 ≡ get_or old.words w 0
       other words w ne = ap (λ ws. get_or ws w 0) words ∙ get_or-set_other old.words (at / 8 + i) w v 0 ne
 

@@ -1,5 +1,5 @@
 -- Whole pages are granted and come back.
-use Rattle.std.proofs.Common.{ℕ, ◌≡◌, ◌≢◌, ◌+◌, ◌-◌, ◌*◌, ◌/◌, ◌^◌, ◌<◌, ◌≤◌, List, Option, Some, None, length, get_or, sym, ap, subst, ◌∙◌, refl, arith}
+use Rattle.std.proofs.Common.{ℕ, ◌≡◌, ◌+◌, ◌-◌, ◌/◌, ◌^◌, ◌<◌, ◌≤◌, List, Option, Some, None, length, get_or, sym, ap, subst, ◌∙◌, refl, arith}
 use Rattle.slab_model.specs.declared.shape.Shape.{Shape}
 use Rattle.slab_model.specs.declared.runs.Run.{Run}
 use Rattle.slab_model.specs.declared.page.PageState.TheVariants.{First}
@@ -8,10 +8,9 @@ use Rattle.slab_model.specs.Runs.{AreSound, first_fit, take_run, give_run}
 use Rattle.slab_model.specs.State.{Slab, pages_in, page_at}
 use Rattle.slab_model.specs.Grant.{grant_run}
 use Rattle.slab_model.specs.Return.{give_pages}
-use Rattle.slab_model.specs.Soundness.{IsSound}
 use Rattle.slab_model.proofs.ClassLemmas.{zone}
 use Rattle.slab_model.proofs.SoundLemmas.{IsSound-run, IsSound-give_pages}
-use Rattle.slab_pages.specs.Places.{Image, KeepsOthers, log_ctx_word, data_word, descriptor_word, descriptor, slab_at, is_run_word}
+use Rattle.slab_pages.specs.Places.{Image, KeepsOthers, log_ctx_word, data_word, descriptor, slab_at}
 use Rattle.slab_pages.specs.Layout.{LaysRuns, HasUsedRun, MayPut}
 use Rattle.slab_model.proofs.RunLemmas.{first_fit-in}
 use Rattle.slab_pages.proofs.PlaceLemmas.{descriptor-word}

@@ -1,6 +1,5 @@
 -- A class's list of pages, as it is linked through heads and descriptors, and what one new link changes.
 use Rattle.std.specs.Prelude.{ℕ, ◌≡◌, ◌≢◌, ◌⊎◌, ◌+◌, ◌/◌, List, [], ◌∷◌, length, slice_index}
-use Rattle.zone_region.specs.Members.{In}
 use Rattle.slab_pages.specs.Places.{class_head, descriptor, next_at, prev_at}
 
 -- from the descriptor at `o` on, these pages are linked, each with this type in its prev word, and back at the head the list ends

@@ -1,19 +1,11 @@
 //! The slab pool in the words of a zone, after `ngx_slab.c`.
 #![tactic(auto)]
 
-mod bits;
-pub mod fault;
+mod clear;
 mod grants;
-mod lists;
 mod places;
-pub mod pool;
-mod probe;
+mod pool;
 mod returns;
 mod runs;
-mod stats;
 
-pub use fault::FreeFault;
 pub use pool::Pool;
-
-#[cfg(test)]
-mod tests;

@@ -1,6 +1,6 @@
 ghost use Rattle.std.specs.Prelude.{◌≡◌, ℕ, ◌+◌, ◌/◌, ◌<◌, ◌≤◌, ◌↔◌, [], length, replicate, slice_index, slice_set, IfOk, IfSome, IsOk, MatchOption, MatchResult, OnErr, OnOk, Some, None};
 ghost use Rattle.zone_region.specs.Words.{SetsWord, word_at};
-ghost use Rattle.slab_model.specs.Geometry.{greatest_zone, class_count, pages_of};
+ghost use Rattle.slab_model.specs.Geometry.{greatest_zone, class_of, pages_of};
 ghost use Rattle.slab_model.specs.State.{Slab, fresh_slab, stat_of};
 ghost use Rattle.slab_model.specs.Counting.{free_pages as free_pages_of};
 ghost use Rattle.slab_model.specs.Grant.{grant as granted, block_bytes};
@@ -12,6 +12,9 @@ ghost use Rattle.slab_pages.specs.SlabLayout.{IsOpened};
 ghost use Rattle.slab_pool.specs.Pool.{LaysPool};
 ghost use Rattle.slab_pool.specs.Live.{block_words, rest_of, KeepsPages, KeepsPagesBut, GrantsWords, ReturnsWords, SameBlockWords};
 
+use crate::clear::clear_block;
+use crate::grants::grant;
+use crate::returns::give_back;
 use slab_pages::{DATA_WORD, Geometry, LOG_CTX_WORD, Pages};
 use std::alloc::Global;
 use std::marker::Model;
@@ -84,6 +87,64 @@ impl Pool {
         ensures { result ≡ slice_index self.now.words w }
     {
         self.pages.word(w)
+    }
+
+    /// Grants a block of at least `size` bytes, 1 to 67,108,864, for `ngx_slab_alloc`: from the first free run that has
+    /// as many whole pages. None exactly where the slab has no block for it, and then no block changes.
+    ///
+    /// So far it serves sizes above 2,048 alone.
+    pub fn alloc(&mut self, size: u64) -> Option<Block>
+        requires some { 0 < size }
+        requires small { size ≤ greatest_zone }
+        requires whole { class_of self.old.shape size ≡ None }
+        ensures block { (slab : Slab) → LaysPool self.old slab → offset_of result ≡ (granted slab size).0 }
+        ensures laid { (slab : Slab) → LaysPool self.old slab → LaysPool self.new (granted slab size).1 }
+        ensures words { (slab : Slab) → LaysPool self.old slab →
+            MatchOption result
+            (SameBlockWords (block_words self.old) (block_words self.new))
+            (λ b. GrantsWords (block_words self.old) (block_words self.new) b.at (block_bytes slab size / 8)) }
+        ensures kept { KeepsPages self.old self.new }
+    {
+        grant(&mut self.pages, size)
+    }
+
+    /// The same with all words of the block set to 0 (`ngx_slab_calloc`).
+    pub fn calloc(&mut self, size: u64) -> Option<Block>
+        requires some { 0 < size }
+        requires small { size ≤ greatest_zone }
+        requires whole { class_of self.old.shape size ≡ None }
+        ensures block { (slab : Slab) → LaysPool self.old slab → offset_of result ≡ (granted slab size).0 }
+        ensures laid { (slab : Slab) → LaysPool self.old slab → LaysPool self.new (granted slab size).1 }
+        ensures words { (slab : Slab) → LaysPool self.old slab →
+            MatchOption result
+            (SameBlockWords (block_words self.old) (block_words self.new))
+            (λ b. GrantsWords (block_words self.old) (block_words self.new) b.at (block_bytes slab size / 8)) }
+        ensures zeros { (slab : Slab) → LaysPool self.old slab →
+            IfSome result (λ b. block_words self.new b.at ≡ replicate (block_bytes slab size / 8) 0) }
+        ensures kept { (slab : Slab) → LaysPool self.old slab →
+            MatchOption result
+            (KeepsPages self.old self.new)
+            (λ b. KeepsPagesBut self.old self.new b.at (block_bytes slab size / 8)) }
+    {
+        match grant(&mut self.pages, size) {
+            None => None,
+            Some(block) => {
+                clear_block(&mut self.pages, block, size);
+                Some(block)
+            }
+        }
+    }
+
+    /// Gives a live block back (`ngx_slab_free`).
+    ///
+    /// So far it takes blocks of whole pages alone.
+    pub fn free(&mut self, b: Block)
+        requires { 512 ≤ length (block_words self.old b.at) }
+        ensures laid { (slab : Slab) → LaysPool self.old slab → LaysPool self.new (given_back slab b.at) }
+        ensures words { ReturnsWords (block_words self.old) (block_words self.new) b.at }
+        ensures kept { KeepsPages self.old self.new }
+    {
+        give_back(&mut self.pages, b.at);
     }
 
     /// Names the context and the name block of the zone in the header's words `data` and `log_ctx`, and changes no

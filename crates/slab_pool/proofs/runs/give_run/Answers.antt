@@ -1,6 +1,6 @@
-use Rattle.std.proofs.Common.{◌≡◌, ℕ, ◌-◌, ◌/◌, ◌^◌, ◌<◌, ◌≤◌, ap, ◌∙◌, arith}
+use Rattle.std.proofs.Common.{◌-◌, ◌/◌, ◌^◌, ap, ◌∙◌, arith}
 use Rattle.slab_pages.specs.Places.{slab_at}
-use Rattle.slab_pool.proofs.RunLemmas.{PutsBack, run-puttable, run-back, run-keeps, run-room}
+use Rattle.slab_pool.proofs.RunLemmas.{run-puttable, run-back, run-keeps, run-room}
 use Rattle.slab_pool.proofs.runs.give_run.Goals as goal
 
 pub offset_of-requires : goal.offset_of-requires

@@ -1,5 +1,4 @@
-use Rattle.std.proofs.Common.{◌≡◌, ℕ, ◌<◌, ◌≤◌, Some, None, Option, sym, ap, ◌∙◌, refl, arith, rules}
-use Rattle.slab_pool.proofs.RunLemmas.{pool-runs, keeps-pages, keeps-same, run-granted, run-refused, fit-room}
+use Rattle.slab_pool.proofs.RunLemmas.{pool-runs, keeps-pages, run-granted, run-refused, fit-room}
 use Rattle.slab_pool.proofs.runs.grant_run.Goals as goal
 
 pub page_offset-requires : goal.page_offset-requires

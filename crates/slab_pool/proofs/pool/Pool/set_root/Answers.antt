@@ -1,4 +1,4 @@
-use Rattle.std.proofs.Common.{ℕ, subst, sym, ap, ◌∙◌}
+use Rattle.std.proofs.Common.{subst, sym, ap, ◌∙◌}
 use Rattle.slab_pages.specs.Places.{Image}
 use Rattle.slab_pool.specs.Pool.{LaysPool}
 use Rattle.slab_pool.specs.Live.{block_words}

@@ -1,4 +1,4 @@
-use Rattle.std.proofs.Common.{ℕ, ◌≡◌, ◌+◌, ◌/◌, ◌<◌, length, List, subst, sym, ap, ◌∙◌, arith}
+use Rattle.std.proofs.Common.{◌<◌, length, subst, sym, ap, ◌∙◌, arith}
 use Rattle.zone_region.specs.Words.{SetsWord}
 use Rattle.slab_pages.specs.Places.{Image}
 use Rattle.slab_pool.specs.Live.{block_words, rest_of}

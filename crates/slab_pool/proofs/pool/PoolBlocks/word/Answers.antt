@@ -1,4 +1,4 @@
-use Rattle.std.proofs.Common.{ℕ, ◌+◌, ◌/◌, ◌<◌, length, get_or, subst, sym, ap, ◌∙◌, arith}
+use Rattle.std.proofs.Common.{◌<◌, length, get_or, subst, sym, ap, ◌∙◌, arith}
 use Rattle.slab_pages.specs.Places.{Image}
 use Rattle.slab_pool.specs.Live.{block_words}
 use Rattle.slab_pool.proofs.BlockWords.{word-block}
