@@ -2,7 +2,7 @@
 #![tactic(auto)]
 
 pub mod calls;
-mod places;
+mod joint;
 pub mod queue;
 
 pub use queue::Queue;

@@ -12,15 +12,15 @@ use Rattle.offset_tree.specs.declared.tree.Tree.{Tree}
 use Rattle.zone_region.specs.Members.{In, IsDistinct}
 use Rattle.offset_tree.specs.Keys.{Rank, rank_of, key_len, bytes_of, IsForm, HoldsKey}
 use Rattle.offset_tree.specs.Bounds.{bits, search_cost}
-use Rattle.offset_tree.proofs.BoundLemmas.{bits-low, bits-high}
+use Rattle.offset_tree.proofs.BoundLemmas.{search_cost-rises}
 use Rattle.offset_tree.specs.Changes.{ChangesNodes, MakesEmpty}
 use Rattle.offset_tree.specs.Layout.{IsContext, IsTree, CanInsert, Inserted}
 use Rattle.zone_region.proofs.MembersLemmas.{In-one_more, In-more, In-split, IsDistinct-split}
 use Rattle.offset_tree.proofs.InsertLemmas.{rank_same}
 use Rattle.offset_tree.proofs.Keeping.{same_block}
 use Rattle.offset_queue.specs.declared.queue.Queue.{Queue}
-use Rattle.offset_queue.specs.Queue.{HoldsQueue}
-use Rattle.offset_tests.specs.Line.{full}
+use Rattle.zone_region.specs.Holding.{HoldsBlocks}
+use Rattle.offset_tests.specs.Line.{full, FitsLine}
 use Rattle.offset_tests.specs.declared.keys.Keys.{Keys}
 use Rattle.offset_tests.specs.Grid.{place_of, key_at, rank_at, IsGrid, HasTree, LacksKey}
 use Rattle.offset_tests.proofs.KeyLemmas.{length-low}
@@ -67,6 +67,18 @@ holds_key m t keys n k form g l =
     let start : t.form.key_at ≤ 80 = elim form.len_place [ inl r ↦ omega (arith, r.2) | inr c ↦ omega (arith, c.2) ] in
     record { links = omega (arith, room); key = omega (arith, room, len, short, start) }
 
+-- different spots are held
+grid_holds : (m : Words) (t : Tree) (keys : Keys) (n : ℕ) (xs : List ℕ) → IsGrid m t keys n → IsDistinct xs → ((x : ℕ) → In x xs → IsSpot n x) → HoldsBlocks m xs
+grid_holds m t keys n xs g distinct spot =
+    let size = λ (x : ℕ) (i : In x xs). long m t keys n x g (spot x i) in
+    record {
+      live = λ x i. omega (arith, size x i);
+      distinct = distinct;
+      apart = λ x y i j ne. spots_apart n x y (length (m x)) (length (m y)) (size x i) (size y j) (spot x i) (spot y j) ne;
+      above = λ x i. spot_low n x (spot x i);
+      below = λ x i. spot_high n x (length (m x)) g.few (size x i) (spot x i);
+    }
+
 -- a block that isn't in the tree can be put in
 can_insert : (m : Words) (t : Tree) (keys : Keys) (k : ℕ) → IsForm t.form → (h : HasTree m t keys) → k < length keys.numbers.items → ((x : ℕ) → In x h.blocks → rank_of m t.form x ≢ rank_at keys k) →
     CanInsert m t (place_of k) (key_at keys k) h.blocks
@@ -79,16 +91,13 @@ can_insert m t keys k form h l none =
       | inl e ↦ inl (e ∙ h.grid.context)
       | inr j ↦ elim j [ inl e ↦ inr (k, l, e) | inr s ↦ inr (h.places x s) ]
     ] in
-    let size = λ (x : ℕ) (i : In x (t.context.at ∷ b ∷ xs)). long m t keys n x h.grid (spot x i) in
     let apart : t.context.at ≢ b = λ e. omega (arith, e, h.grid.context) in
+    let distinct : IsDistinct (t.context.at ∷ b ∷ xs) = (λ i. elim i [ inl e ↦ apart e | inr j ↦ h.tree.holds.distinct.0 j ], (λ i. none b i rank, h.tree.holds.distinct.1)) in
     record {
-      holds = record {
-        context = omega (arith, size t.context.at (inl refl));
-        nodes = λ x i. elim i [ inl e ↦ subst (λ (q : ℕ). HoldsKey m t.form q) (sym e) (holds_key m t keys n k form h.grid l) | inr j ↦ h.tree.holds.nodes x j ];
-        apart = λ x y i j ne. spots_apart n x y (length (m x)) (length (m y)) (size x i) (size y j) (spot x i) (spot y j) ne;
-        distinct = (λ i. elim i [ inl e ↦ apart e | inr j ↦ h.tree.holds.distinct.0 j ], (λ i. none b i rank, h.tree.holds.distinct.1));
-        above = λ x i. spot_low n x (spot x i);
-        below = λ x i. spot_high n x (length (m x)) h.grid.few (size x i) (spot x i);
+      holds = grid_holds m t keys n (t.context.at ∷ b ∷ xs) h.grid distinct spot;
+      room = record {
+        context = h.tree.room.context;
+        nodes = λ x i. elim i [ inl e ↦ subst (λ (q : ℕ). HoldsKey m t.form q) (sym e) (holds_key m t keys n k form h.grid l) | inr j ↦ h.tree.room.nodes x j ];
       };
       lays = h.tree.lays;
       key_is = ap (λ (r : Rank). r.1) rank;
@@ -221,24 +230,6 @@ few_blocks (suc n) xs d at = elim (is_in (place_of n) xs) [
   below : (m x : ℕ) → x ≢ place_of m → (k : ℕ) × (k < suc m) × (x ≡ place_of k) → (k : ℕ) × (k < m) × (x ≡ place_of k)
   below m x ne p = (p.0, omega (arith, p.1, λ (e : p.0 ≡ m). ne (p.2 ∙ ap (λ k. place_of k) e)), p.2)
 
-bits-rises : (a b : ℕ) → a ≢ 0 → a ≤ b → bits a ≤ bits b
-bits-rises a b some le =
-    let high = bits-high a some in
-    let low : b < 2 ^ bits b = elim (cases_lt b (2 ^ bits b)) [ inl l ↦ l | inr ge ↦ absurd (omega (arith, bits-low b (bits b) ge)) ] in
-    let twice : 2 ^ suc (bits b) ≡ 2 * 2 ^ bits b = omega arith in
-    elim (cases_order (bits a) (suc (bits b))) [
-      | inl e ↦ absurd (let p : 2 ^ bits a ≡ 2 ^ suc (bits b) = ap (λ (x : ℕ). 2 ^ x) e in omega (arith, p, high, low, twice, le))
-      | inr other ↦ elim other [ inl less ↦ omega (arith, less) | inr more ↦ absurd (omega (arith, pow_below (suc (bits b)) (bits a) more, high, low, twice, le)) ]
-    ]
-
--- a search among more blocks costs no less
-pub cost-rises : (n most len : ℕ) → n ≤ most → search_cost n len ≤ search_cost most len
-unfolding search_cost
-cost-rises n most len le =
-    let b = bits-rises (n + 1) (most + 1) (λ e. omega (arith, e)) (omega (arith, le)) in
-    let more : 2 * bits (n + 1) + 1 ≤ 2 * bits (most + 1) + 1 = omega (arith, b) in
-    mul-le-mul_right (5 + len / 8) more
-
 -- what searches in the rows cost
 pub cost_of_thousand : search_cost 1000 4 ≡ 105
 unfolding search_cost bits
@@ -261,10 +252,10 @@ pub search_bound : (m : Words) (t : Tree) (keys : Keys) (k : ℕ) (key : List �
 search_bound m t keys k key h le same =
     let few = few_blocks (length keys.numbers.items) h.blocks h.tree.holds.distinct.1 h.places in
     let len : length key ≡ keys.len = ap (λ bs. length bs) same ∙ length-key_at keys k le in
-    subst (λ (l : ℕ). search_cost (length h.blocks) l ≤ search_cost (length keys.numbers.items) keys.len) (sym len) (cost-rises (length h.blocks) (length keys.numbers.items) keys.len few)
+    subst (λ (l : ℕ). search_cost (length h.blocks) l ≤ search_cost (length keys.numbers.items) keys.len) (sym len) (search_cost-rises (length h.blocks) (length keys.numbers.items) keys.len few)
 
 -- the first three blocks of a grid can be in a queue whose head is in the context
-pub grid_queue : (m : Words) (t : Tree) (q : Queue) (keys : Keys) (n : ℕ) → IsGrid m t keys n → 3 ≤ n → q.head.at ≡ 4096 → q.at ≡ 8 → HoldsQueue m q 5 full
+pub grid_queue : (m : Words) (t : Tree) (q : Queue) (keys : Keys) (n : ℕ) → IsGrid m t keys n → 3 ≤ n → q.head.at ≡ 4096 → q.at ≡ 8 → FitsLine m q
 grid_queue m t q keys n g most at word =
     let spot = λ (x : ℕ) (i : In x (q.head.at ∷ full)). elim i as (λ _. IsSpot n x) [
       | inl e ↦ inl (e ∙ at)
@@ -278,13 +269,9 @@ grid_queue m t q keys n g most at word =
     ] in
     let size = λ (x : ℕ) (i : In x (q.head.at ∷ full)). long m t keys n x g (spot x i) in
     record {
-      head = omega (arith, size q.head.at (inl refl), word);
-      entries = λ x i. omega (arith, size x (inr i));
-      apart = λ x y i j ne. spots_apart n x y (length (m x)) (length (m y)) (size x i) (size y j) (spot x i) (spot y j) ne;
-      distinct = (
+      holds = grid_holds m t keys n (q.head.at ∷ full) g (
         λ i. elim i [ inl e ↦ omega (arith, e, at) | inr j ↦ elim j [ inl e ↦ omega (arith, e, at) | inr k ↦ elim k [ inl e ↦ omega (arith, e, at) | inr none ↦ none ] ] ],
         (λ i. elim i [ inl e ↦ omega (arith, e) | inr j ↦ elim j [ inl e ↦ omega (arith, e) | inr none ↦ none ] ], (λ i. elim i [ inl e ↦ omega (arith, e) | inr none ↦ none ], (λ i. i, tt))),
-      );
-      above = λ x i. spot_low n x (spot x i);
-      below = λ x i. spot_high n x (length (m x)) g.few (size x i) (spot x i);
+      ) spot;
+      room = record { head = omega (arith, size q.head.at (inl refl), word); entries = λ x i. omega (arith, size x (inr i)) };
     }

@@ -1,7 +1,6 @@
 ghost use Rattle.std.specs.Prelude.{◌≡◌, ℕ, List, [], ◌∷◌, true, IfOk};
 ghost use Rattle.zone_region.specs.Members.{In};
-ghost use Rattle.offset_queue.specs.Queue.{HoldsQueue};
-ghost use Rattle.offset_tests.specs.Line.{full, IsLine, HasLine};
+ghost use Rattle.offset_tests.specs.Line.{full, FitsLine, IsLine, HasLine};
 
 use offset_queue::calls::{init, last, move_front, push_front, remove};
 use offset_queue::queue::Queue;
@@ -47,7 +46,7 @@ fn push<B: Blocks>(blocks: &mut B, q: &Queue, b: Block)
 
 /// Makes an empty queue.
 pub fn begin<B: Blocks>(blocks: &mut B, q: &Queue)
-    requires { HoldsQueue (B.words blocks.old) q.now 5 full }
+    requires { FitsLine (B.words blocks.old) q.now }
     ensures { IsLine (B.words blocks.new) q.now [] }
 {
     init(blocks, q);

@@ -1,7 +1,8 @@
 -- Binary digits, and what searches and insertions read.
-use Rattle.std.proofs.Common.{ℕ, ◌≡◌, ◌≢◌, ◌+◌, ◌*◌, ◌/◌, ◌^◌, ◌<◌, ◌≤◌, zero, suc, sym, subst, refl, arith, inl, inr}
+use Rattle.std.proofs.Common.{ℕ, ◌≡◌, ◌≢◌, ◌+◌, ◌*◌, ◌/◌, ◌^◌, ◌<◌, ◌≤◌, zero, suc, sym, ap, subst, refl, arith, inl, inr}
 use Rattle.std.proofs.Math.Nat.{mul-le-mul_right}
-use Rattle.std.proofs.lemmas.Bool.{cases_eq}
+use Rattle.std.proofs.lemmas.Bool.{cases_eq, cases_lt, cases_order}
+use Rattle.std.proofs.lemmas.Nat.{pow_below}
 use Rattle.std.proofs.lemmas.Grind.{common_steps}
 use Rattle.offset_tree.specs.Bounds.{bits_up_to, bits, search_cost}
 
@@ -61,3 +62,22 @@ pub put_in : (n len h depth start found used : ℕ) → 2 ^ h ≤ n + 1 → dept
 put_in n len h depth start found used p d f u =
     let enough : 10 * h ≤ 2 * h * (5 + len / 8) = omega arith in
     omega (arith, d, f, u, enough, search_cost-low n len h p)
+
+-- more blocks have no fewer digits
+bits-rises : (a b : ℕ) → a ≢ 0 → a ≤ b → bits a ≤ bits b
+bits-rises a b some le =
+    let high = bits-high a some in
+    let low : b < 2 ^ bits b = elim (cases_lt b (2 ^ bits b)) [ inl l ↦ l | inr ge ↦ absurd (omega (arith, bits-low b (bits b) ge)) ] in
+    let twice : 2 ^ suc (bits b) ≡ 2 * 2 ^ bits b = pow-suc (bits b) in
+    elim (cases_order (bits a) (suc (bits b))) [
+      | inl e ↦ absurd (let p : 2 ^ bits a ≡ 2 ^ suc (bits b) = ap (λ (x : ℕ). 2 ^ x) e in omega (arith, p, high, low, twice, le))
+      | inr other ↦ elim other [ inl less ↦ omega (arith, less) | inr more ↦ absurd (omega (arith, pow_below (suc (bits b)) (bits a) more, high, low, twice, le)) ]
+    ]
+
+-- a search among more blocks costs no less
+pub search_cost-rises : (n most len : ℕ) → n ≤ most → search_cost n len ≤ search_cost most len
+unfolding search_cost
+search_cost-rises n most len le =
+    let b = bits-rises (n + 1) (most + 1) (λ e. omega (arith, e)) (omega (arith, le)) in
+    let more : 2 * bits (n + 1) + 1 ≤ 2 * bits (most + 1) + 1 = omega (arith, b) in
+    mul-le-mul_right (5 + len / 8) more

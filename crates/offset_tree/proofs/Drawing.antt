@@ -3,8 +3,10 @@ use Rattle.std.proofs.Common.{ℕ, ◌≡◌, ◌≢◌, ◌+◌, ◌*◌, ◌^�
 use Rattle.zone_region.specs.Words.{Words, word_at}
 use Rattle.offset_tree.specs.declared.tree.Tree.{Tree}
 use Rattle.zone_region.specs.Members.{In, IsDistinct}
+use Rattle.zone_region.specs.Holding.{HoldsBlocks}
+use Rattle.zone_region.proofs.HoldingLemmas.{holds_some, holds_kept, holds_one}
 use Rattle.offset_tree.specs.Keys.{Rank, HoldsKey, IsOrdered}
-use Rattle.offset_tree.specs.Layout.{LaysPart, empty, red, black, LaysTree, IsContext, HoldsTree, IsTree, CanInsert}
+use Rattle.offset_tree.specs.Layout.{LaysPart, empty, red, black, LaysTree, IsContext, HasNodes, IsTree, CanInsert}
 use Rattle.offset_tree.specs.Changes.{MakesEmpty}
 use Rattle.offset_tree.specs.Shape.{Shape, leaf, node, blocks_of, hits}
 use Rattle.offset_tree.specs.Links.{Lies}
@@ -48,17 +50,17 @@ undrawn m nil (node false a x b) o p (suc h) l q =
     (black l.1 l.2 (undrawn m nil a (word_at m x 1) x h l.3 q.0) (undrawn m nil b (word_at m x 2) x h l.4 q.1))
 
 -- a block that doesn't overlap the context is neither its beginning nor the sentinel
-away : (m : Words) (t : Tree) (xs : List ℕ) → HoldsTree m t xs → (x : ℕ) → In x xs → (x ≢ t.context.at) × (x ≢ t.context.at + 24) × (x ≢ 0)
-away m t xs h x i =
+away : (m : Words) (t : Tree) (xs : List ℕ) → HoldsBlocks m (t.context.at ∷ xs) → HasNodes m t xs → (x : ℕ) → In x xs → (x ≢ t.context.at) × (x ≢ t.context.at + 24) × (x ≢ 0)
+away m t xs h r x i =
     let differs : x ≢ t.context.at = λ e. h.distinct.0 (subst (λ (q : ℕ). In q xs) e i) in
-    let room = (h.nodes x i).links in
-    (differs, λ e. elim (h.apart x t.context.at (inr i) (inl refl) differs) [ inl a ↦ omega (arith, a, e, room) | inr b ↦ omega (arith, b, e, h.context) ], λ e. omega (arith, h.above x (inr i), e))
+    let room = (r.nodes x i).links in
+    (differs, λ e. elim (h.apart x t.context.at (inr i) (inl refl) differs) [ inl a ↦ omega (arith, a, e, room) | inr b ↦ omega (arith, b, e, r.context) ], λ e. omega (arith, h.above x (inr i), e))
 
-low_enough : (m : Words) (t : Tree) (xs : List ℕ) → HoldsTree m t xs → (x : ℕ) → In x xs → x < 2 ^ 63
-low_enough m t xs h x i = omega (arith, h.below x (inr i), (h.nodes x i).links)
+low_enough : (m : Words) (t : Tree) (xs : List ℕ) → HoldsBlocks m (t.context.at ∷ xs) → HasNodes m t xs → (x : ℕ) → In x xs → x < 2 ^ 63
+low_enough m t xs h r x i = omega (arith, h.below x (inr i), (r.nodes x i).links)
 
-pub ends_of : (m : Words) (t : Tree) (xs : List ℕ) → HoldsTree m t xs → t.context.at + 64 ≤ 2 ^ 63
-ends_of m t xs h = omega (arith, h.below t.context.at (inl refl), h.context)
+pub ends_of : (m : Words) (t : Tree) (xs : List ℕ) → HoldsBlocks m (t.context.at ∷ xs) → HasNodes m t xs → t.context.at + 64 ≤ 2 ^ 63
+ends_of m t xs h r = omega (arith, h.below t.context.at (inl refl), r.context)
 
 pub drawn : (m : Words) (t : Tree) (xs : List ℕ) → IsTree m t xs → IsDrawn m t xs
 drawn m t xs h =
@@ -70,11 +72,11 @@ drawn m t xs h =
         tree = d.tree;
         height = h.lays.height;
         shape = record {
-          head = h.holds.context;
-          room = λ z i. (h.holds.nodes z (member z i)).links;
+          head = h.room.context;
+          room = λ z i. (h.room.nodes z (member z i)).links;
           tidy = once;
-          apart = λ z i. away m t xs h.holds z (member z i);
-          below = λ z i. low_enough m t xs h.holds z (member z i);
+          apart = λ z i. away m t xs h.holds h.room z (member z i);
+          below = λ z i. low_enough m t xs h.holds h.room z (member z i);
           lies = d.lies;
         };
         black = d.colour;
@@ -82,8 +84,8 @@ drawn m t xs h =
         blocks = d.blocks;
       };
       ordered = h.lays.ordered;
-      keys = h.holds.nodes;
-      ends = ends_of m t xs h.holds;
+      keys = h.room.nodes;
+      ends = ends_of m t xs h.holds h.room;
     }
 
 pub lays_of : (m : Words) (t : Tree) (xs : List ℕ) → Settled m t.context.at xs → IsOrdered m t.form xs → LaysTree m t xs
@@ -95,53 +97,37 @@ lays_of m t xs s o =
     record { height = s.height; lies = subst (λ (ys : List ℕ). LaysPart m nil ys root 0 false s.height) s.blocks l'; ordered = o }
 
 -- blocks that were held are held with other words, if they keep their lengths
-pub holds_same : (m n : Words) (t : Tree) (xs ys : List ℕ) → HoldsTree m t xs → ((z : ℕ) → length (n z) ≡ length (m z)) → ((y : ℕ) → In y ys → In y xs) → IsDistinct (t.context.at ∷ ys) → ((y : ℕ) → In y ys → HoldsKey n t.form y) → HoldsTree n t ys
-holds_same m n t xs ys h same more distinct keys =
-    let up = λ (y : ℕ) (i : In y (t.context.at ∷ ys)). elim i as (λ _. In y (t.context.at ∷ xs)) [ inl e ↦ inl e | inr j ↦ inr (more y j) ] in
-    record {
-      context = omega (arith, same t.context.at, h.context);
-      nodes = keys;
-      apart = λ x y i j ne. elim (h.apart x y (up x i) (up y j) ne) [ inl a ↦ inl (omega (arith, a, same x)) | inr b ↦ inr (omega (arith, b, same y)) ];
-      distinct = distinct;
-      above = λ x i. h.above x (up x i);
-      below = λ x i. omega (arith, same x, h.below x (up x i));
-    }
+pub held_same : (m n : Words) (context : ℕ) (xs ys : List ℕ) → HoldsBlocks m (context ∷ xs) → ((z : ℕ) → length (n z) ≡ length (m z)) → ((y : ℕ) → In y ys → In y xs) → IsDistinct (context ∷ ys) → HoldsBlocks n (context ∷ ys)
+held_same m n context xs ys h same more distinct =
+    holds_some n (context ∷ xs) (context ∷ ys) distinct (λ y i. elim i [ inl e ↦ inl e | inr j ↦ inr (more y j) ]) (holds_kept m n (context ∷ xs) (λ z i. same z) h)
 
 -- the tree before a block is put in
 pub tree_of : (m : Words) (t : Tree) (b : ℕ) (key xs : List ℕ) → CanInsert m t b key xs → IsTree m t xs
 tree_of m t b key xs c = record {
-  holds = holds_same m m t (b ∷ xs) xs c.holds (λ z. refl) (λ y i. inr i) (λ i. c.holds.distinct.0 (inr i), c.holds.distinct.1.1) (λ y i. c.holds.nodes y (inr i));
+  holds = held_same m m t.context.at (b ∷ xs) xs c.holds (λ z. refl) (λ y i. inr i) (λ i. c.holds.distinct.0 (inr i), c.holds.distinct.1.1);
+  room = record { context = c.room.context; nodes = λ y i. c.room.nodes y (inr i) };
   lays = c.lays;
 }
 
 pub insertable : (m : Words) (t : Tree) (b : ℕ) (key xs : List ℕ) → CanInsert m t b key xs → IsInsertable m t b key xs
 insertable m t b key xs c = record {
   tree = drawn m t xs (tree_of m t b key xs c);
-  room = c.holds.nodes b (inl refl);
+  room = c.room.nodes b (inl refl);
   new = c.holds.distinct.1.0;
-  apart = away m t (b ∷ xs) c.holds b (inl refl);
-  below = low_enough m t (b ∷ xs) c.holds b (inl refl);
+  apart = away m t (b ∷ xs) c.holds c.room b (inl refl);
+  below = low_enough m t (b ∷ xs) c.holds c.room b (inl refl);
   key_is = c.key_is;
   other = λ x i e. c.other x i (e ∙ ap (λ (k : List ℕ). let q : Rank = (word_at m b 0, k) in q) (sym c.key_is));
 }
 
 -- the empty tree
 pub made_empty : (m n : Words) (t : Tree) → IsContext m t → MakesEmpty m n t.context.at → IsTree n t []
-made_empty m n t h e =
-    let same = e.lengths t.context.at in
-    let here = λ (x : ℕ) (i : In x (t.context.at ∷ [])). elim i as (λ _. x ≡ t.context.at) [ inl q ↦ q | inr none ↦ absurd none ] in
-    record {
-      holds = record {
-        context = omega (arith, same, h.room);
-        nodes = λ x i. absurd i;
-        apart = λ x y i j ne. absurd (ne (here x i ∙ sym (here y j)));
-        distinct = (λ i. i, tt);
-        above = λ x i. omega (arith, here x i, h.above);
-        below = λ x i. subst (λ (z : ℕ). z + 8 * length (n z) ≤ 2 ^ 63) (sym (here x i)) (omega (arith, same, h.below));
-      };
-      lays = record {
-        height = 0;
-        lies = subst (λ (o : ℕ). LaysPart n (t.context.at + 24) [] o 0 false 0) (sym e.root) empty;
-        ordered = tt;
-      };
-    }
+made_empty m n t h e = record {
+  holds = holds_kept m n (t.context.at ∷ []) (λ x i. e.lengths x) (holds_one m t.context.at (omega (arith, h.room)) h.above h.below);
+  room = record { context = omega (arith, e.lengths t.context.at, h.room); nodes = λ x none. absurd none };
+  lays = record {
+    height = 0;
+    lies = subst (λ (o : ℕ). LaysPart n (t.context.at + 24) [] o 0 false 0) (sym e.root) empty;
+    ordered = tt;
+  };
+}

@@ -23,7 +23,7 @@ use Rattle.offset_tree.proofs.ShapeLemmas.{one-same, hits-plug}
 use Rattle.zone_region.proofs.MembersLemmas.{In-append_cases, In-one_more, IsDistinct-join}
 use Rattle.offset_tree.proofs.BalanceLemmas.{placed_balanced}
 use Rattle.offset_tree.proofs.SearchLemmas.{rank_total, ordered_at, child_balanced, tree_height}
-use Rattle.offset_tree.proofs.Drawing.{lays_of, holds_same}
+use Rattle.offset_tree.proofs.Drawing.{lays_of, held_same}
 use Rattle.offset_tree.specs.Layout.{CanInsert, Inserted}
 use Rattle.offset_tree.proofs.Frames.{hits_in}
 
@@ -292,7 +292,11 @@ inserted m n t b key xs p side form c o settled changes =
       is = o.is;
       changes = changes;
       tree = record {
-        holds = holds_same m n t (b ∷ xs) ys c.holds changes.lengths member distinct (λ y i. holds_key_same m n t.form t.context.at ys y form changes (away y i) (c.holds.nodes y (member y i)));
+        holds = held_same m n t.context.at (b ∷ xs) ys c.holds changes.lengths member distinct;
+        room = record {
+          context = omega (arith, changes.lengths t.context.at, c.room.context);
+          nodes = λ y i. holds_key_same m n t.form t.context.at ys y form changes (away y i) (c.room.nodes y (member y i));
+        };
         lays = lays_of n t ys settled (ordered_same m n t.form ys (λ y i. rank_same m n t.form t.context.at ys y form changes (away y i)) ordered);
       };
     }

@@ -1,15 +1,18 @@
 -- For callers: what a change of other words leaves of a tree.
-use Rattle.std.proofs.Common.{ℕ, ◌≡◌, ◌+◌, ◌*◌, ◌/◌, ◌%◌, ◌^◌, ◌≤◌, zero, suc, Bool, false, List, ◌∷◌, length, sym, ap, subst, ◌∙◌, refl, arith, inl, inr}
+use Rattle.std.proofs.Common.{ℕ, ◌≡◌, ◌≢◌, ◌⊎◌, ◌+◌, ◌*◌, ◌/◌, ◌%◌, ◌^◌, ◌≤◌, zero, suc, Bool, false, List, ◌∷◌, length, sym, ap, subst, ◌∙◌, refl, arith, inl, inr}
 use Rattle.std.proofs.lemmas.Bool.{cases_eq}
 use Rattle.zone_region.specs.Words.{Words, word_at}
 use Rattle.offset_tree.specs.declared.tree.Tree.{Tree}
 use Rattle.offset_tree.specs.declared.tree.Form.{Form}
 use Rattle.zone_region.specs.Members.{In}
-use Rattle.offset_tree.specs.Keys.{Rank, byte_of, bytes_of, key_len, key_of, rank_of}
-use Rattle.offset_tree.specs.Layout.{LaysPart, empty, red, black, IsTree}
+use Rattle.offset_tree.specs.Keys.{Rank, byte_of, bytes_of, key_len, key_of, rank_of, HoldsKey}
+use Rattle.offset_tree.specs.Layout.{LaysPart, empty, red, black, IsTree, CanInsert}
+use Rattle.zone_region.specs.Holding.{HoldsBlocks}
+use Rattle.zone_region.proofs.HoldingLemmas.{holds_kept}
 use Rattle.zone_region.proofs.MembersLemmas.{In-append_left, In-append_right, In-middle}
 use Rattle.offset_tree.proofs.LiesLemmas.{same_word}
 use Rattle.offset_tree.proofs.InsertLemmas.{ordered_same}
+use Rattle.offset_tree.proofs.Drawing.{tree_of}
 
 -- the links and the colour of a block stay
 pub record KeepsNode (m n : Words) (z : ℕ) : Type 0 where
@@ -47,23 +50,62 @@ key_len-rank : (m n : Words) (f : Form) (z : ℕ) → rank_of n f z ≡ rank_of 
 key_len-rank m n f z e =
     sym (length-bytes_of n z f.key_at (key_len n f z)) ∙ (ap (λ (r : Rank). length r.1) e ∙ length-bytes_of m z f.key_at (key_len m f z))
 
+kept_room : (m n : Words) (f : Form) (z : ℕ) → length (n z) ≡ length (m z) → rank_of n f z ≡ rank_of m f z → HoldsKey m f z → HoldsKey n f z
+kept_room m n f z same rank h = record { links = omega (arith, same, h.links); key = omega (arith, same, h.key, key_len-rank m n f z rank) }
+
 pub kept_tree : (m n : Words) (t : Tree) (xs : List ℕ) → KeepsTree m n t xs → IsTree m t xs → IsTree n t xs
 kept_tree m n t xs k h =
     let lies : LaysPart n (t.context.at + 24) xs (word_at m t.context.at 0) 0 false h.lays.height = kept_part m n (t.context.at + 24) k.nodes h.lays.lies in
     record {
-      holds = record {
-        context = omega (arith, k.lengths t.context.at (inl refl), h.holds.context);
-        nodes = λ x i. let old = h.holds.nodes x i in let same = k.lengths x (inr i) in record { links = omega (arith, same, old.links); key = omega (arith, same, old.key, key_len-rank m n t.form x (k.keys x i)) };
-        apart = λ x y i j ne. elim (h.holds.apart x y i j ne) [ inl a ↦ inl (omega (arith, a, k.lengths x i)) | inr b ↦ inr (omega (arith, b, k.lengths y j)) ];
-        distinct = h.holds.distinct;
-        above = h.holds.above;
-        below = λ x i. omega (arith, k.lengths x i, h.holds.below x i);
+      holds = holds_kept m n (t.context.at ∷ xs) k.lengths h.holds;
+      room = record {
+        context = omega (arith, k.lengths t.context.at (inl refl), h.room.context);
+        nodes = λ x i. kept_room m n t.form x (k.lengths x (inr i)) (k.keys x i) (h.room.nodes x i);
       };
       lays = record {
         height = h.lays.height;
         lies = subst (λ (o : ℕ). LaysPart n (t.context.at + 24) xs o 0 false h.lays.height) (sym k.root) lies;
         ordered = ordered_same m n t.form xs k.keys h.lays.ordered;
       };
+    }
+
+pub kept_fewer : (m n : Words) (t : Tree) (xs ys : List ℕ) → ((z : ℕ) → In z ys → In z xs) → KeepsTree m n t xs → KeepsTree m n t ys
+kept_fewer m n t xs ys into k = record {
+  lengths = λ z i. k.lengths z (elim i [ inl e ↦ inl e | inr j ↦ inr (into z j) ]);
+  root = k.root;
+  nodes = λ z i. k.nodes z (into z i);
+  keys = λ z i. k.keys z (into z i);
+}
+
+-- a block that can be put in can still be put in
+pub kept_can_insert : (m n : Words) (t : Tree) (b : ℕ) (key xs : List ℕ) → KeepsTree m n t (b ∷ xs) → CanInsert m t b key xs → CanInsert n t b key xs
+kept_can_insert m n t b key xs k c =
+    let tree = kept_tree m n t xs (kept_fewer m n t (b ∷ xs) xs (λ z i. inr i) k) (tree_of m t b key xs c) in
+    record {
+      holds = holds_kept m n (t.context.at ∷ b ∷ xs) k.lengths c.holds;
+      room = record {
+        context = tree.room.context;
+        nodes = λ x i. kept_room m n t.form x (k.lengths x (inr i)) (k.keys x i) (c.room.nodes x i);
+      };
+      lays = tree.lays;
+      key_is = ap (λ (r : Rank). r.1) (k.keys b (inl refl)) ∙ c.key_is;
+      other = λ x i e. c.other x i (sym (k.keys x (inr i)) ∙ (e ∙ k.keys b (inl refl)));
+    }
+
+-- A block can be put into a tree that stays, where no block of it had the block's hash and key.
+pub can_insert : (m n : Words) (t : Tree) (b hash : ℕ) (key xs : List ℕ) → KeepsTree m n t xs → IsTree m t xs → ((x : ℕ) → In x xs → rank_of m t.form x ≢ (hash, key)) →
+    HoldsBlocks n (t.context.at ∷ b ∷ xs) → HoldsKey n t.form b → rank_of n t.form b ≡ (hash, key) → CanInsert n t b key xs
+can_insert m n t b hash key xs k h none holds room rank =
+    let tree = kept_tree m n t xs k h in
+    record {
+      holds = holds;
+      room = record {
+        context = tree.room.context;
+        nodes = λ x i. elim i [ inl e ↦ subst (λ (z : ℕ). HoldsKey n t.form z) (sym e) room | inr j ↦ tree.room.nodes x j ];
+      };
+      lays = tree.lays;
+      key_is = ap (λ (r : Rank). r.1) rank;
+      other = λ x i e. none x i (sym (k.keys x i) ∙ (e ∙ rank));
     }
 
 -- a block whose words stay
@@ -101,6 +143,25 @@ rank_of-request m n f z at hash flags rest =
     let bytes = key_bytes m n z f.key_at (key_len m f z) (λ k le. ap (λ (w : ℕ). w / 2 ^ (8 * (k % 8)) % 256) (rest (k / 8) (omega (arith, at, le)))) in
     let key : key_of n f z ≡ key_of m f z = ap (λ (k : ℕ). bytes_of n z f.key_at k) len ∙ bytes in
     ap (λ (h : ℕ). let p : Rank = (h, key_of n f z) in p) hash ∙ ap (λ (k : List ℕ). let p : Rank = (word_at m z 0, k) in p) key
+
+-- In request nodes the words 5 to 9 may change: the links of a queue, and numbers that are no part of the key.
+pub record KeepsRequestNodes (m n : Words) (t : Tree) (xs : List ℕ) : Type 0 where
+  pub lengths : (z : ℕ) → In z (t.context.at ∷ xs) → length (n z) ≡ length (m z)
+  pub root : word_at n t.context.at 0 ≡ word_at m t.context.at 0
+  pub nodes : (z i : ℕ) → In z xs → (i ≤ 4) ⊎ (10 ≤ i) → word_at n z i ≡ word_at m z i
+
+pub kept_request_nodes : (m n : Words) (t : Tree) (xs : List ℕ) → t.form.key_at ≡ 80 → KeepsRequestNodes m n t xs → KeepsTree m n t xs
+kept_request_nodes m n t xs at k = record {
+  lengths = k.lengths;
+  root = k.root;
+  nodes = λ z i. record {
+    left = k.nodes z 1 i (inl (omega arith));
+    right = k.nodes z 2 i (inl (omega arith));
+    parent = k.nodes z 3 i (inl (omega arith));
+    colour = ap (λ w. w % 256) (k.nodes z 4 i (inl (omega arith)));
+  };
+  keys = λ z i. rank_of-request m n t.form z at (k.nodes z 0 i (inl (omega arith))) (k.nodes z 4 i (inl (omega arith))) (λ j le. k.nodes z j i (inr le));
+}
 
 -- a byte of a word's upper half
 upper : (v w k : ℕ) → v / 4294967296 ≡ w / 4294967296 → 4 ≤ k → k ≤ 7 → v / 2 ^ (8 * k) % 256 ≡ w / 2 ^ (8 * k) % 256

@@ -1,5 +1,5 @@
 -- The list without a block, as a tree.
-use Rattle.std.proofs.Common.{ℕ, ◌≢◌, List, [], ◌∷◌, ◌++◌, subst}
+use Rattle.std.proofs.Common.{ℕ, ◌≢◌, List, [], ◌∷◌, ◌++◌, ◌≤◌, length, subst, arith}
 use Rattle.zone_region.specs.Words.{Words}
 use Rattle.offset_tree.specs.declared.tree.Tree.{Tree}
 use Rattle.offset_tree.specs.declared.tree.Form.{Form}
@@ -10,7 +10,7 @@ use Rattle.offset_tree.specs.Layout.{IsTree}
 use Rattle.offset_tree.specs.Balance.{Settled}
 use Rattle.zone_region.proofs.MembersLemmas.{In-more, IsDistinct-split}
 use Rattle.offset_tree.proofs.InsertLemmas.{rank_same, holds_key_same, ordered_same}
-use Rattle.offset_tree.proofs.Drawing.{lays_of, holds_same}
+use Rattle.offset_tree.proofs.Drawing.{lays_of, held_same}
 
 after_without : (m : Words) (f : Form) (z : ℕ) (xs : List ℕ) (b : ℕ) (ys : List ℕ) → AllAfter m f z (xs ++ b ∷ ys) → AllAfter m f z (xs ++ ys)
 after_without m f z [] b ys a = a.1
@@ -29,6 +29,10 @@ removed_tree m n t b before after form h s changes =
     let away = λ (y : ℕ) (i : In y ys). let r : y ≢ t.context.at = λ e. h.holds.distinct.0 (subst (λ (q : ℕ). In q xs) e (more y i)) in r in
     let distinct : IsDistinct (t.context.at ∷ ys) = (λ i. h.holds.distinct.0 (more t.context.at i), (IsDistinct-split before b after h.holds.distinct.1).0) in
     record {
-      holds = holds_same m n t xs ys h.holds changes.lengths more distinct (λ y i. holds_key_same m n t.form t.context.at xs y form changes (away y i) (h.holds.nodes y (more y i)));
+      holds = held_same m n t.context.at xs ys h.holds changes.lengths more distinct;
+      room = record {
+        context = omega (arith, changes.lengths t.context.at, h.room.context);
+        nodes = λ y i. holds_key_same m n t.form t.context.at xs y form changes (away y i) (h.room.nodes y (more y i));
+      };
       lays = lays_of n t ys s (ordered_same m n t.form ys (λ y i. rank_same m n t.form t.context.at xs y form changes (away y i)) (ordered_without m t.form before b after h.lays.ordered));
     }

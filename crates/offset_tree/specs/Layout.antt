@@ -1,8 +1,9 @@
 -- How a tree of blocks lies in words.
 use Rattle.std.specs.Prelude.{ℕ, ◌≡◌, ◌≢◌, ◌+◌, ◌*◌, ◌%◌, ◌^◌, ◌<◌, ◌≤◌, suc, Bool, true, false, List, [], ◌∷◌, ◌++◌, length}
-use Rattle.zone_region.specs.Words.{Words, word_at, IsApart}
+use Rattle.zone_region.specs.Words.{Words, word_at}
 use Rattle.offset_tree.specs.declared.tree.Tree.{Tree}
-use Rattle.zone_region.specs.Members.{In, IsDistinct}
+use Rattle.zone_region.specs.Members.{In}
+use Rattle.zone_region.specs.Holding.{HoldsBlocks}
 use Rattle.offset_tree.specs.Keys.{rank_of, key_of, HoldsKey, IsOrdered}
 use Rattle.offset_tree.specs.Changes.{ChangesNodes}
 
@@ -28,23 +29,21 @@ pub record IsContext (m : Words) (t : Tree) : Type 0 where
   pub above : 0 < t.context.at
   pub below : t.context.at + 8 * length (m t.context.at) ≤ 2 ^ 63
 
--- The context and these blocks are live, have room for links and keys, don't overlap, begin above 0 and end at or below 2^63.
-pub record HoldsTree (m : Words) (t : Tree) (xs : List ℕ) : Type 0 where
+-- The context has room for the root and the sentinel, and these blocks for their links and keys.
+pub record HasNodes (m : Words) (t : Tree) (xs : List ℕ) : Type 0 where
   pub context : 8 ≤ length (m t.context.at)
   pub nodes : (x : ℕ) → In x xs → HoldsKey m t.form x
-  pub apart : (x y : ℕ) → In x (t.context.at ∷ xs) → In y (t.context.at ∷ xs) → x ≢ y → IsApart m x y
-  pub distinct : IsDistinct (t.context.at ∷ xs)
-  pub above : (x : ℕ) → In x (t.context.at ∷ xs) → 0 < x
-  pub below : (x : ℕ) → In x (t.context.at ∷ xs) → x + 8 * length (m x) ≤ 2 ^ 63
 
 -- The tree's list of blocks is `xs`.
 pub record IsTree (m : Words) (t : Tree) (xs : List ℕ) : Type 0 where
-  pub holds : HoldsTree m t xs
+  pub holds : HoldsBlocks m (t.context.at ∷ xs)
+  pub room : HasNodes m t xs
   pub lays : LaysTree m t xs
 
--- The block has this key, and no block of the tree has its hash and key.
+-- The tree's list is `xs`, and the block could be one more: it has this key, and no block of the tree has its hash and key.
 pub record CanInsert (m : Words) (t : Tree) (b : ℕ) (key : List ℕ) (xs : List ℕ) : Type 0 where
-  pub holds : HoldsTree m t (b ∷ xs)
+  pub holds : HoldsBlocks m (t.context.at ∷ b ∷ xs)
+  pub room : HasNodes m t (b ∷ xs)
   pub lays : LaysTree m t xs
   pub key_is : key_of m t.form b ≡ key
   pub other : (x : ℕ) → In x xs → rank_of m t.form x ≢ rank_of m t.form b

@@ -17,6 +17,7 @@ fn clear<B: Blocks, L: Ledger>(blocks: &mut B, t: &Tree, b: u64, p: u64, steps: 
     requires room { 5 ≤ length (B.words blocks.old b) }
     ensures clears { Cleared (B.words blocks.old) (B.words blocks.new) (t.now.context.at + 24) b p }
     ensures cost { steps.new ≡ steps.old + 1 }
+    ensures rest { B.rest blocks.new ≡ B.rest blocks.old }
 {
     let nil = sentinel(t);
     blocks.set(Block { at: b }, 1, nil);
@@ -29,7 +30,8 @@ fn clear<B: Blocks, L: Ledger>(blocks: &mut B, t: &Tree, b: u64, p: u64, steps: 
 fn link<B: Blocks>(blocks: &mut B, t: &Tree, p: u64, side: Side, b: u64)
     requires context { 8 ≤ length (B.words blocks.old t.now.context.at) }
     requires live { p ≢ 0 → 5 ≤ length (B.words blocks.old p) }
-    ensures { Linked (B.words blocks.old) (B.words blocks.new) t.now.context.at p side b }
+    ensures does { Linked (B.words blocks.old) (B.words blocks.new) t.now.context.at p side b }
+    ensures rest { B.rest blocks.new ≡ B.rest blocks.old }
 {
     if p == 0 {
         blocks.set(t.context, 0, b);
@@ -55,6 +57,7 @@ pub(crate) fn attach<B: Blocks, L: Ledger>(
         ChangesTree (B.words blocks.old) (B.words blocks.new) t.now.context.at (plug k
         (node true leaf b leaf)) }
     ensures cost { steps.new ≡ steps.old + 1 }
+    ensures rest { B.rest blocks.new ≡ B.rest blocks.old }
 {
     clear(blocks, t, b, p, steps);
     link(blocks, t, p, side, b);

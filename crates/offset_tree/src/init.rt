@@ -1,4 +1,4 @@
-ghost use Rattle.std.specs.Prelude.{[]};
+ghost use Rattle.std.specs.Prelude.{◌≡◌, []};
 ghost use Rattle.offset_tree.specs.Layout.{IsContext, IsTree};
 ghost use Rattle.offset_tree.specs.Changes.{MakesEmpty};
 
@@ -9,7 +9,8 @@ use zone_region::blocks::Blocks;
 /// Sets the root and the sentinel's offset to the sentinel, and clears the sentinel's five words.
 fn write_context<B: Blocks>(blocks: &mut B, t: &Tree)
     requires { IsContext (B.words blocks.old) t.now }
-    ensures { MakesEmpty (B.words blocks.old) (B.words blocks.new) t.now.context.at }
+    ensures does { MakesEmpty (B.words blocks.old) (B.words blocks.new) t.now.context.at }
+    ensures rest { B.rest blocks.new ≡ B.rest blocks.old }
 {
     let nil = sentinel(t);
     blocks.set(t.context, 0, nil);
@@ -26,6 +27,7 @@ pub fn init<B: Blocks>(blocks: &mut B, t: &Tree)
     requires { IsContext (B.words blocks.old) t.now }
     ensures lays { IsTree (B.words blocks.new) t.now [] }
     ensures changes { MakesEmpty (B.words blocks.old) (B.words blocks.new) t.now.context.at }
+    ensures rest { B.rest blocks.new ≡ B.rest blocks.old }
 {
     write_context(blocks, t);
 }

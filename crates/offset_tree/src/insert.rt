@@ -1,4 +1,4 @@
-ghost use Rattle.std.specs.Prelude.{◌≢◌, ℕ, ◌+◌, ◌*◌, ◌≤◌, List, length};
+ghost use Rattle.std.specs.Prelude.{◌≡◌, ◌≢◌, ℕ, ◌+◌, ◌*◌, ◌≤◌, List, length};
 ghost use Rattle.zone_region.specs.Members.{In};
 ghost use Rattle.offset_tree.specs.Keys.{IsForm, rank_of};
 ghost use Rattle.offset_tree.specs.Layout.{CanInsert, Inserted};
@@ -76,6 +76,7 @@ pub fn insert<B: Blocks, L: Ledger>(
         Inserted (B.words blocks.old) (B.words blocks.new) t.now b.at xs }
     ensures cost { (xs : List ℕ) → CanInsert (B.words blocks.old) t.now b.at key.now xs →
         steps.new ≤ steps.old + (3 * search_cost (length xs) (length key.now) + 24) }
+    ensures rest { B.rest blocks.new ≡ B.rest blocks.old }
 {
     let hash = blocks.word(b, 0, steps);
     let place = gap_for(blocks, t, hash, key, steps);

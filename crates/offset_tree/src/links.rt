@@ -69,7 +69,8 @@ pub(crate) fn parent<B: Blocks, L: Ledger>(blocks: &B, x: u64, steps: &mut Steps
 /// Sets a node's child on one side, and its parent.
 pub(crate) fn set_two<B: Blocks>(blocks: &mut B, x: u64, side: Side, v: u64, p: u64)
     requires { 5 ≤ length (B.words blocks.old x) }
-    ensures { SetsTwo (B.words blocks.old) (B.words blocks.new) x (index_of side) v 3 p }
+    ensures does { SetsTwo (B.words blocks.old) (B.words blocks.new) x (index_of side) v 3 p }
+    ensures rest { B.rest blocks.new ≡ B.rest blocks.old }
 {
     blocks.set(Block { at: x }, index(side), v);
     blocks.set(Block { at: x }, PARENT, p);
@@ -79,7 +80,8 @@ pub(crate) fn set_two<B: Blocks>(blocks: &mut B, x: u64, side: Side, v: u64, p: 
 pub(crate) fn set_parent<B: Blocks>(blocks: &mut B, t: &Tree, o: u64, p: u64)
     requires ends { t.now.context.at + 64 ≤ 2 ^ 63 }
     requires live { o ≢ t.now.context.at + 24 → 5 ≤ length (B.words blocks.old o) }
-    ensures { SetsParent (B.words blocks.old) (B.words blocks.new) (t.now.context.at + 24) o p }
+    ensures does { SetsParent (B.words blocks.old) (B.words blocks.new) (t.now.context.at + 24) o p }
+    ensures rest { B.rest blocks.new ≡ B.rest blocks.old }
 {
     if o != sentinel(t) {
         blocks.set(Block { at: o }, PARENT, p);
@@ -99,6 +101,7 @@ pub(crate) fn replace<B: Blocks, L: Ledger>(
     requires live { p ≢ 0 → 5 ≤ length (B.words blocks.old p) }
     ensures replaces { Replaces (B.words blocks.old) (B.words blocks.new) t.now.context.at p o v }
     ensures cost { steps.new ≤ steps.old + 1 }
+    ensures rest { B.rest blocks.new ≡ B.rest blocks.old }
 {
     if p == 0 {
         blocks.set(t.context, 0, v);
@@ -148,6 +151,7 @@ pub(crate) fn paint<B: Blocks, L: Ledger>(blocks: &mut B, x: u64, red: bool, ste
     ensures paints { SetsWord (B.words blocks.old) (B.words blocks.new) x 4 (with_colour (word_at
         (B.words blocks.old) x 4) red) }
     ensures cost { steps.new ≡ steps.old + 1 }
+    ensures rest { B.rest blocks.new ≡ B.rest blocks.old }
 {
     let word = blocks.word(Block { at: x }, COLOUR, steps);
     let colour = if red { 1 } else { 0 };

@@ -28,6 +28,7 @@ fn calm<B: Blocks, L: Ledger>(
         BlackSibling (B.words blocks.new) t.now.context.at p v side xs d }
     ensures changes { (xs : List ℕ) → RedSibling (B.words blocks.old) t.now.context.at p w side xs →
         ChangesNodes (B.words blocks.old) (B.words blocks.new) t.now.context.at xs }
+    ensures rest { B.rest blocks.new ≡ B.rest blocks.old }
 {
     recolour(blocks, t, w, false, steps);
     recolour(blocks, t, p, true, steps);
@@ -56,6 +57,7 @@ fn finish<B: Blocks, L: Ledger>(
         (B.words blocks.old) t.now.context.at p w side xs d) → red_of r.outer ≡ true →
         Lies (B.words blocks.old) (t.now.context.at + 24) r.outer v w →
         ChangesNodes (B.words blocks.old) (B.words blocks.new) t.now.context.at xs }
+    ensures rest { B.rest blocks.new ≡ B.rest blocks.old }
 {
     let red = is_red(blocks, t, p, steps);
     recolour(blocks, t, w, red, steps);
@@ -88,6 +90,7 @@ fn turn_sibling<B: Blocks, L: Ledger>(
         (B.words blocks.old) t.now.context.at p w side xs d) → red_of r.near ≡ true →
         red_of r.outer ≡ false → Lies (B.words blocks.old) (t.now.context.at + 24) r.near z w →
         ChangesNodes (B.words blocks.old) (B.words blocks.new) t.now.context.at xs }
+    ensures rest { B.rest blocks.new ≡ B.rest blocks.old }
 {
     recolour(blocks, t, z, false, steps);
     recolour(blocks, t, w, true, steps);
@@ -122,6 +125,7 @@ fn black_sibling<B: Blocks, L: Ledger>(
     ensures changes { (xs : List ℕ) (d : ℕ) →
         Lacking (B.words blocks.old) t.now.context.at place.at place.parent place.side xs d →
         ChangesNodes (B.words blocks.old) (B.words blocks.new) t.now.context.at xs }
+    ensures rest { B.rest blocks.new ≡ B.rest blocks.old }
 {
     let far = other(place.side);
     let w = child(blocks, place.parent, far, steps);
@@ -154,6 +158,7 @@ fn sink<B: Blocks, L: Ledger>(
         (B.words blocks.old) t.now.context.at p w side xs d) → red_of r.near ≡ false →
         red_of r.outer ≡ false →
         ChangesNodes (B.words blocks.old) (B.words blocks.new) t.now.context.at xs }
+    ensures rest { B.rest blocks.new ≡ B.rest blocks.old }
 {
     recolour(blocks, t, w, true, steps);
     if is_red(blocks, t, p, steps) {
@@ -193,6 +198,7 @@ fn mend_step<B: Blocks, L: Ledger>(
     ensures changes { (xs : List ℕ) (d : ℕ) →
         Lacking (B.words blocks.old) t.now.context.at place.at place.parent place.side xs d →
         ChangesNodes (B.words blocks.old) (B.words blocks.new) t.now.context.at xs }
+    ensures rest { B.rest blocks.new ≡ B.rest blocks.old }
 {
     if is_red(blocks, t, place.at, steps) {
         recolour(blocks, t, place.at, false, steps);
@@ -233,6 +239,7 @@ pub(crate) fn mend<B: Blocks, L: Ledger>(
     ensures changes { (xs : List ℕ) (d : ℕ) →
         Lacking (B.words blocks.old) t.now.context.at place.at place.parent place.side xs d →
         ChangesNodes (B.words blocks.old) (B.words blocks.new) t.now.context.at xs }
+    ensures rest { B.rest blocks.new ≡ B.rest blocks.old }
 {
     let mut lacking = place;
     for round in 0..u64::MAX {

@@ -49,6 +49,7 @@ fn take_out<B: Blocks, L: Ledger>(
         Settled (B.words blocks.new) t.now.context.at xs }
     ensures changes { (xs : List ℕ) → OneSided (B.words blocks.old) t.now.context.at y side xs →
         ChangesNodes (B.words blocks.old) (B.words blocks.new) t.now.context.at xs }
+    ensures rest { B.rest blocks.new ≡ B.rest blocks.old }
 {
     let red = is_red(blocks, t, y, steps);
     let v = child(blocks, y, other(side), steps);
@@ -81,7 +82,8 @@ fn fill<B: Blocks, L: Ledger>(
     steps: &mut Steps<L>,
 )
     requires { 5 ≤ length (B.words blocks.old y) }
-    ensures { Filled (B.words blocks.old) (B.words blocks.new) y left right p red }
+    ensures does { Filled (B.words blocks.old) (B.words blocks.new) y left right p red }
+    ensures rest { B.rest blocks.new ≡ B.rest blocks.old }
 {
     blocks.set(Block { at: y }, 1, left);
     blocks.set(Block { at: y }, 2, right);
@@ -102,6 +104,7 @@ fn substitute<B: Blocks, L: Ledger>(blocks: &mut B, t: &Tree, x: u64, y: u64, st
         IsFresh (B.words blocks.old) t.now.context.at y (seated u x) → In y ys → ((z : ℕ) →
         In z (blocks_of (seated u x)) → In z ys) →
         ChangesNodes (B.words blocks.old) (B.words blocks.new) t.now.context.at ys }
+    ensures rest { B.rest blocks.new ≡ B.rest blocks.old }
 {
     let left = child(blocks, x, Side::Left, steps);
     let right = child(blocks, x, Side::Right, steps);
@@ -147,6 +150,7 @@ fn unlink<B: Blocks, L: Ledger>(blocks: &mut B, t: &Tree, b: Block, steps: &mut 
         Settled (B.words blocks.old) t.now.context.at (before ++ b.at ∷ after) →
         ChangesNodes (B.words blocks.old) (B.words blocks.new) t.now.context.at
         (before ++ b.at ∷ after) }
+    ensures rest { B.rest blocks.new ≡ B.rest blocks.old }
 {
     let nil = sentinel(t);
     let left = child(blocks, b.at, Side::Left, steps);
@@ -175,6 +179,7 @@ fn remove_with<B: Blocks, L: Ledger>(blocks: &mut B, t: &Tree, b: Block, blank: 
         IsTree (B.words blocks.new) t.now (before ++ after) }
     ensures changes { (xs : List ℕ) → IsTree (B.words blocks.old) t.now xs → In b.at xs →
         ChangesNodes (B.words blocks.old) (B.words blocks.new) t.now.context.at xs }
+    ensures rest { B.rest blocks.new ≡ B.rest blocks.old }
 {
     let mut steps = Steps::<L>::new(blank);
     unlink(blocks, t, b, &mut steps);
@@ -192,6 +197,7 @@ pub fn remove<B: Blocks>(blocks: &mut B, t: &Tree, b: Block)
         IsTree (B.words blocks.new) t.now (before ++ after) }
     ensures changes { (xs : List ℕ) → IsTree (B.words blocks.old) t.now xs → In b.at xs →
         ChangesNodes (B.words blocks.old) (B.words blocks.new) t.now.context.at xs }
+    ensures rest { B.rest blocks.new ≡ B.rest blocks.old }
 {
     remove_with::<B, Brand>(blocks, t, b, Blank::new(1))
 }

@@ -27,6 +27,7 @@ fn lift<B: Blocks, L: Ledger>(
         RedUncle (B.words blocks.old) t.now.context.at p v g xs d →
         ChangesNodes (B.words blocks.old) (B.words blocks.new) t.now.context.at xs }
     ensures cost { steps.new ≡ steps.old + 3 }
+    ensures rest { B.rest blocks.new ≡ B.rest blocks.old }
 {
     recolour(blocks, t, p, false, steps);
     recolour(blocks, t, v, false, steps);
@@ -49,6 +50,7 @@ fn settle<B: Blocks, L: Ledger>(
     ensures changes { (xs : List ℕ) → Straight (B.words blocks.old) t.now.context.at p g side xs →
         ChangesNodes (B.words blocks.old) (B.words blocks.new) t.now.context.at xs }
     ensures cost { steps.new ≤ steps.old + 6 }
+    ensures rest { B.rest blocks.new ≡ B.rest blocks.old }
 {
     recolour(blocks, t, p, false, steps);
     recolour(blocks, t, g, true, steps);
@@ -76,6 +78,7 @@ fn resolve<B: Blocks, L: Ledger>(
         (B.words blocks.old) t.now.context.at x p g side xs d) → red_of c.uncle ≡ false →
         ChangesNodes (B.words blocks.old) (B.words blocks.new) t.now.context.at xs }
     ensures cost { steps.new ≤ steps.old + 11 }
+    ensures rest { B.rest blocks.new ≡ B.rest blocks.old }
 {
     let inner = child(blocks, p, other(side), steps);
     if inner == x {
@@ -101,6 +104,7 @@ fn repair_step<B: Blocks, L: Ledger>(
     ensures changes { (xs : List ℕ) (d : ℕ) → Rising (B.words blocks.old) t.now.context.at x xs d →
         ChangesNodes (B.words blocks.old) (B.words blocks.new) t.now.context.at xs }
     ensures cost { MatchOption result (steps.new ≤ steps.old + 17) (λ y. steps.new ≤ steps.old + 9) }
+    ensures rest { B.rest blocks.new ≡ B.rest blocks.old }
 {
     let p = parent(blocks, x, steps);
     if p == 0 {
@@ -132,6 +136,7 @@ pub(crate) fn repair<B: Blocks, L: Ledger>(blocks: &mut B, t: &Tree, x: u64, ste
         ChangesNodes (B.words blocks.old) (B.words blocks.new) t.now.context.at xs }
     ensures cost { (xs : List ℕ) (d : ℕ) → Rising (B.words blocks.old) t.now.context.at x xs d →
         steps.new ≤ steps.old + (17 + 5 * d) }
+    ensures rest { B.rest blocks.new ≡ B.rest blocks.old }
 {
     let mut at = x;
     for round in 0..u64::MAX {

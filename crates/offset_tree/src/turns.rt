@@ -26,6 +26,7 @@ pub(crate) fn rotate<B: Blocks, L: Ledger>(
         IsShape (B.words blocks.old) t.now.context.at (unturned u side x) →
         ChangesTree (B.words blocks.old) (B.words blocks.new) t.now.context.at (unturned u side x) }
     ensures cost { steps.new ≤ steps.old + 4 }
+    ensures rest { B.rest blocks.new ≡ B.rest blocks.old }
 {
     let far = other(side);
     let y = child(blocks, x, far, steps);
@@ -51,6 +52,7 @@ pub(crate) fn recolour<B: Blocks, L: Ledger>(
     ensures changes { (u : Spot) → IsShape (B.words blocks.old) t.now.context.at (shape_at u x) →
         ChangesTree (B.words blocks.old) (B.words blocks.new) t.now.context.at (shape_at u x) }
     ensures cost { steps.new ≡ steps.old + 1 }
+    ensures rest { B.rest blocks.new ≡ B.rest blocks.old }
 {
     paint(blocks, x, red, steps);
 }

@@ -6,7 +6,7 @@ use Rattle.std.proofs.lemmas.Bool.{ltb-false}
 use Rattle.std.proofs.lemmas.Grind.{common_steps}
 use Rattle.std.specs.List.{remove, position_or_len}
 use Rattle.req_zone.specs.Table.{Entry, has_key, entry_of}
-use Rattle.req_zone.specs.Memory.{State}
+use Rattle.req_zone.specs.State.{State}
 use Rattle.req_zone.specs.Calls.{Reply}
 use Rattle.req_zone.specs.Calls.Call.{check}
 use Rattle.req_zone.specs.Step.{check_found, check_missing, check_as, step}

@@ -2,14 +2,14 @@
 use Rattle.std.proofs.Common.{ℕ, ◌≡◌, ◌*◌, ◌-◌, ◌^◌, ◌<◌, ◌≤◌, List, [], length, ap, ◌∙◌, arith}
 use Rattle.req_zone.specs.Table.{Entry}
 use Rattle.req_zone.specs.Places.{Zone, opened, capacity_of}
-use Rattle.slab_model.specs.Geometry.{most_pages, start_of, pages_of, least_zone, greatest_zone}
+use Rattle.slab_model.specs.Geometry.{shape_of, most_pages, start_of, pages_of, least_zone, greatest_zone}
 
 -- at least two pages, and fewer than 2 ^ 32
-pub some_pages : (bytes : ℕ) → least_zone ≤ bytes → bytes ≤ greatest_zone → (2 ≤ pages_of bytes) × (pages_of bytes < 2 ^ 32)
+pub some_pages : (bytes : ℕ) → least_zone (shape_of bytes) ≤ bytes → bytes ≤ greatest_zone → (2 ≤ pages_of (shape_of bytes)) × (pages_of (shape_of bytes) < 2 ^ 32)
 unfolding pages_of start_of most_pages
 some_pages bytes large small = (omega arith, omega arith)
 
-pub opened_is : (rate bytes pages capacity : ℕ) (items : List Entry) → items ≡ [] → pages ≡ pages_of bytes → capacity ≡ 32 * (pages - 1) - 1 →
+pub opened_is : (rate bytes pages capacity : ℕ) (items : List Entry) → items ≡ [] → pages ≡ pages_of (shape_of bytes) → capacity ≡ 32 * (pages - 1) - 1 →
     record { rate = rate; state = record { table = items; memory = capacity - length items } } ≡ opened rate bytes
 unfolding capacity_of
 opened_is rate bytes pages capacity items empty is size =

@@ -5,7 +5,7 @@ use Rattle.std.proofs.lemmas.Bool.{ltb-false}
 use Rattle.std.proofs.lemmas.Grind.{common_steps}
 use Rattle.std.specs.List.{insert}
 use Rattle.req_zone.specs.Table.{Entry, is_stale}
-use Rattle.req_zone.specs.Memory.{State, give_all}
+use Rattle.req_zone.specs.State.{State, give_all}
 use Rattle.req_zone.specs.Expiry.{stale_leaving, first_leaving, forced_from, forced_leaving, without_oldest}
 use Rattle.req_zone.specs.Leaving.{leaving_in_all}
 use Rattle.req_zone.specs.Calls.{Reply}

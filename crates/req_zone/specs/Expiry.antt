@@ -1,7 +1,8 @@
 -- Expiry takes entries from the back of a table: the oldest ones, a suffix of the list.
 use Rattle.std.specs.Prelude.{ℕ, zero, suc, ◌+◌, ◌-◌, ◌&&◌, nat_eq, List, [], ◌∷◌, length, take, reverse, if◌then◌else◌}
 use Rattle.req_zone.specs.Table.{Entry, is_stale}
-use Rattle.req_zone.specs.Memory.{Memory, State, give_all}
+use Rattle.slab_model.specs.Store.{BlockStore}
+use Rattle.req_zone.specs.State.{State, give_all}
 
 -- how many of the oldest entries leave as stale, `most` at most; it stops at the first that isn't stale or is held
 abbrev pub stale_leaving : ℕ → ℕ → ℕ → List Entry → ℕ
@@ -26,5 +27,5 @@ abbrev pub without_oldest : ℕ → List Entry → List Entry
 without_oldest n table = take (length table - n) table
 
 -- the `n` oldest entries leave, from the back, and each one's block is given back
-abbrev pub evict : {S : Type 0} → Memory S → State S → ℕ → State S
+abbrev pub evict : {S : Type 0} → BlockStore S → State S → ℕ → State S
 evict memory state n = record { table = without_oldest n state.table; memory = give_all memory state.memory (take n (reverse state.table)) }

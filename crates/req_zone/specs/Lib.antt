@@ -1,7 +1,8 @@
 pub use Rattle.slab_model.specs.Geometry
+pub use Rattle.slab_model.specs.Store
 pub mod Amount
 pub mod Table
-pub mod Memory
+pub mod State
 pub mod Expiry
 pub mod Calls
 pub mod Step

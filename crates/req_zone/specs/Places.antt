@@ -1,12 +1,13 @@
 -- A zone whose nodes all take one kind of block, so that its memory is the number of free places.
 use Rattle.std.specs.Prelude.{ℕ, ◌+◌, ◌-◌, ◌*◌, ◌≡◌, nat_eq, [], Some, None, if◌then◌else◌}
-use Rattle.req_zone.specs.Memory.{Memory, State}
+use Rattle.slab_model.specs.Store.{BlockStore}
+use Rattle.req_zone.specs.State.{State}
 use Rattle.req_zone.specs.Calls.{Call, Reply}
 use Rattle.req_zone.specs.Step.{step}
-use Rattle.slab_model.specs.Geometry.{pages_of}
+use Rattle.slab_model.specs.Geometry.{shape_of, pages_of}
 
 -- a store of free places: a grant takes one while there is one, and each place that comes back is free
-abbrev pub places : Memory ℕ
+abbrev pub places : BlockStore ℕ
 places = record {
   grant = λ free size. if nat_eq free 0 then (None, 0) else (Some 0, free - 1);
   give_back = λ free at. free + 1;
@@ -19,7 +20,7 @@ pub record Zone : Type 0 where
 
 -- the nodes of keys of 1 to 48 bytes that a zone has room for: 32 in each page but the one of the zone's name, less one block for the context
 unfoldable pub capacity_of : ℕ → ℕ
-capacity_of bytes = 32 * (pages_of bytes - 1) - 1
+capacity_of bytes = 32 * (pages_of (shape_of bytes) - 1) - 1
 
 -- a fresh zone of this rate and of so many bytes
 abbrev pub opened : ℕ → ℕ → Zone

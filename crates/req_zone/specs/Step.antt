@@ -2,7 +2,8 @@
 use Rattle.std.specs.Prelude.{ℕ, ◌+◌, ◌-◌, Bool, true, false, nat_lt, nat_eq, List, [], ◌∷◌, length, Option, Some, None, find, if◌then◌else◌}
 use Rattle.req_zone.specs.Amount.{amount_of, stamp}
 use Rattle.req_zone.specs.Table.{Entry, entry_of, others}
-use Rattle.req_zone.specs.Memory.{Memory, State}
+use Rattle.slab_model.specs.Store.{BlockStore}
+use Rattle.req_zone.specs.State.{State}
 use Rattle.req_zone.specs.Expiry.{first_leaving, forced_leaving, evict}
 use Rattle.req_zone.specs.Calls.{Call, Reply}
 use Rattle.req_zone.specs.Calls.Call.{check, account, release}
@@ -50,7 +51,7 @@ after_second key now last evicted table None store = (no_room evicted, record { 
 after_second key now last evicted table (Some at) store = (new_reply last at, record { table = new_entry key now last at ∷ table; memory = store })
 
 -- the forced expiry and the second grant
-abbrev pub by_force : {S : Type 0} → Memory S → ℕ → List ℕ → ℕ → Bool → ℕ → State S → Reply × State S
+abbrev pub by_force : {S : Type 0} → BlockStore S → ℕ → List ℕ → ℕ → Bool → ℕ → State S → Reply × State S
 by_force memory rate key now last evicted state =
     let forced = forced_leaving rate now state.table in
     let left = evict memory state forced in
@@ -58,12 +59,12 @@ by_force memory rate key now last evicted state =
     after_second key now last (evicted + forced) left.table granted.0 granted.1
 
 -- the first grant, after the first expiry removed so many
-abbrev pub after_first : {S : Type 0} → Memory S → ℕ → List ℕ → ℕ → Bool → ℕ → List Entry → Option ℕ → S → Reply × State S
+abbrev pub after_first : {S : Type 0} → BlockStore S → ℕ → List ℕ → ℕ → Bool → ℕ → List Entry → Option ℕ → S → Reply × State S
 after_first memory rate key now last evicted table None store = by_force memory rate key now last evicted (record { table = table; memory = store })
 after_first memory rate key now last evicted table (Some at) store = (new_reply last at, record { table = new_entry key now last at ∷ table; memory = store })
 
 -- the first expiry and the first grant
-abbrev pub check_missing : {S : Type 0} → Memory S → ℕ → List ℕ → ℕ → Bool → State S → Reply × State S
+abbrev pub check_missing : {S : Type 0} → BlockStore S → ℕ → List ℕ → ℕ → Bool → State S → Reply × State S
 check_missing memory rate key now last state =
     let stale = first_leaving rate now state.table in
     let left = evict memory state stale in
@@ -72,7 +73,7 @@ check_missing memory rate key now last state =
 
 -- ---- the calls
 
-abbrev pub check_as : {S : Type 0} → Memory S → ℕ → List ℕ → ℕ → ℕ → Bool → State S → Option Entry → Reply × State S
+abbrev pub check_as : {S : Type 0} → BlockStore S → ℕ → List ℕ → ℕ → ℕ → Bool → State S → Option Entry → Reply × State S
 check_as memory rate key now burst last state None = check_missing memory rate key now last state
 check_as memory rate key now burst last state (Some entry) =
     let found = check_found rate now burst last entry (others key state.table) in
@@ -89,7 +90,7 @@ account_amount rate now None = 0
 account_amount rate now (Some entry) = amount_of rate entry.excess entry.last now
 
 -- the reply of a call, and the state after it
-abbrev pub step : {S : Type 0} → Memory S → ℕ → State S → Call → Reply × State S
+abbrev pub step : {S : Type 0} → BlockStore S → ℕ → State S → Call → Reply × State S
 step memory rate state (check key now burst last) = check_as memory rate key now burst last state (entry_of key state.table)
 step memory rate state (account at now) =
     let amount = account_amount rate now (find (λ (entry : Entry). nat_eq entry.block at) state.table) in
@@ -98,11 +99,11 @@ step memory rate state (release at) =
     (released, record { table = change_at at (λ (entry : Entry). with_count (entry.count - 1) entry) state.table; memory = state.memory })
 
 -- the replies of a list of calls, in order
-abbrev pub replies_of : {S : Type 0} → Memory S → ℕ → State S → List Call → List Reply
+abbrev pub replies_of : {S : Type 0} → BlockStore S → ℕ → State S → List Call → List Reply
 replies_of memory rate state [] = []
 replies_of memory rate state (call ∷ calls) = (step memory rate state call).0 ∷ replies_of memory rate (step memory rate state call).1 calls
 
 -- the state after a list of calls
-abbrev pub state_after : {S : Type 0} → Memory S → ℕ → State S → List Call → State S
+abbrev pub state_after : {S : Type 0} → BlockStore S → ℕ → State S → List Call → State S
 state_after memory rate state [] = state
 state_after memory rate state (call ∷ calls) = state_after memory rate (step memory rate state call).1 calls

@@ -7,7 +7,7 @@ ghost use Rattle.req_zone.specs.Step.{check_missing};
 ghost use Rattle.req_zone.specs.Table.{entry_of};
 ghost use Rattle.req_zone.specs.Leaving.{leaving_in_all};
 ghost use Rattle.req_zone.specs.Opening.{IsFaultOf};
-ghost use Rattle.slab_model.specs.Geometry.{least_zone, greatest_zone};
+ghost use Rattle.slab_model.specs.Geometry.{shape_of, least_zone, greatest_zone};
 
 use crate::calls::{ReqReply, ReqSpec};
 use crate::errors::OpenFault;
@@ -78,7 +78,7 @@ impl ReqZone {
         requires bytes { spec.now.bytes ≤ greatest_zone }
         requires page_shift { spec.now.page_shift ≡ 12 }
         requires rate { IsRate spec.now.rate }
-        ensures { MatchResult result (λ zone. (least_zone ≤ spec.now.bytes) × (zone ≡ opened spec.now.rate spec.now.bytes)) (IsFaultOf spec.now.bytes) }
+        ensures { MatchResult result (λ zone. (least_zone (shape_of spec.now.bytes) ≤ spec.now.bytes) × (zone ≡ opened spec.now.rate spec.now.bytes)) (IsFaultOf spec.now.bytes) }
     {
         let Ok(geometry) = Geometry::of(spec.bytes, spec.page_shift) else {
             return Err(OpenFault::TooSmall);

@@ -5,7 +5,9 @@ use Rattle.std.proofs.lemmas.Bool.{cases_eq, cases_lt}
 use Rattle.std.proofs.lemmas.Grind.{common_steps}
 use Rattle.slab_model.specs.declared.page.PageState.{PageState}
 use Rattle.slab_model.specs.declared.page.PageState.TheVariants.{Free, First, Later, Class}
-use Rattle.slab_model.specs.Slab.{page_at, fill_pages, use_pages, HasUsedRuns}
+use Rattle.slab_model.specs.State.{page_at, fill_pages}
+use Rattle.slab_model.specs.Grant.{use_pages}
+use Rattle.slab_model.specs.Soundness.{HasUsedRuns}
 
 pub length-fill : (state : PageState) (page count : ℕ) (pages : List PageState) → length (fill_pages state page count pages) ≡ length pages
 length-fill state page zero pages = refl

@@ -4,8 +4,13 @@ use Rattle.std.specs.Prelude.{IfOk, OnOk, OnErr}
 use Rattle.zone_outside.specs.declared.errors.NoMemory.{NoMemory}
 use Rattle.zone_region.specs.declared.blocks.Block.{Block}
 use Rattle.slab_model.specs.declared.parts.Parts.{Parts}
-use Rattle.slab_model.specs.Parts.{slab_of, offset_of}
-use Rattle.slab_model.specs.Slab.{Slab, IsSound, IsLive, grant, give_back, free_pages}
+use Rattle.slab_model.specs.Inside.{slab_of, offset_of}
+use Rattle.slab_model.specs.State.{Slab}
+use Rattle.slab_model.specs.Blocks.{IsLive}
+use Rattle.slab_model.specs.Counting.{free_pages}
+use Rattle.slab_model.specs.Grant.{grant}
+use Rattle.slab_model.specs.Return.{give_back}
+use Rattle.slab_model.specs.Soundness.{IsSound}
 use Rattle.slab_model.proofs.ClassLemmas.{zone}
 use Rattle.slab_model.proofs.Laws.{grant-sound, give_back-sound}
 use Rattle.slab_model.proofs.CountLaws.{pages-law}
@@ -19,4 +24,4 @@ sound_after_return (Ok u) old new at s live ok err = subst (λ (t : Slab). IsSou
 sound_after_return (Err e) old new at s live ok err = subst (λ (p : Parts). IsSound (slab_of p)) (sym err) s
 
 pub few_free : (slab : Slab) → IsSound slab → free_pages slab < 2 ^ 64
-few_free slab s = let h = pages-law slab s in let z = zone slab.bytes s.large s.small in omega (arith, h, z.many)
+few_free slab s = let h = pages-law slab s in let z = zone slab.shape s.limits in omega (arith, h, z.many)

@@ -3,7 +3,7 @@ use Rattle.std.proofs.Common.{ℕ, ◌≡◌, ◌⊎◌, ◌+◌, ◌-◌, ◌<�
 use Rattle.std.specs.Prelude.{filter}
 use Rattle.std.proofs.lemmas.Grind.{common_steps}
 use Rattle.slab_model.specs.declared.runs.Run.{Run}
-use Rattle.slab_model.specs.Runs.{AreApart, IsApart, AreSound, is_within, is_covered, page_total, first_fit, cut_run, take_run, pages_before, pages_from, merged_run, is_beside, give_run}
+use Rattle.slab_model.specs.Runs.{AreRunsApart, IsRunApart, AreSound, is_within, is_covered, page_total, first_fit, cut_run, take_run, pages_before, pages_from, merged_run, is_beside, give_run}
 
 -- a page within bounds, and one outside
 pub is_within-in : (page first count : ℕ) → first ≤ page → page < first + count → is_within page first count ≡ true
@@ -16,7 +16,7 @@ pub is_within-not : (page first count : ℕ) → (page < first) ⊎ (first + cou
 is_within-not page first count h = grind (arith, common_steps)
 
 -- a run that is apart from others holds no page of theirs
-pub apart_covers : (run : Run) (runs : List Run) (page : ℕ) → IsApart run runs → run.first ≤ page → page < run.first + run.pages → is_covered page runs ≡ false
+pub apart_covers : (run : Run) (runs : List Run) (page : ℕ) → IsRunApart run runs → run.first ≤ page → page < run.first + run.pages → is_covered page runs ≡ false
 apart_covers run [] page apart low high = refl
 apart_covers run (other ∷ others) page apart low high = let ih = apart_covers run others page apart.1 low high in grind (arith, common_steps, ih)
 
@@ -30,21 +30,21 @@ first_fit-in total count [] first sound found = absurd (cc)
 first_fit-in total count (run ∷ runs) first sound found = let ih = first_fit-in total count runs first sound.3 in grind (arith, common_steps, ih)
 
 -- what is apart from all runs is apart from what is left of them
-pub IsApart-take : (count : ℕ) (run : Run) (runs : List Run) → 0 < count → IsApart run runs → IsApart run (take_run count runs)
-IsApart-take count run [] some apart = tt
-IsApart-take count run (other ∷ others) some apart = let ih = IsApart-take count run others some apart.1 in grind (arith, common_steps, ih)
+pub IsRunApart-take : (count : ℕ) (run : Run) (runs : List Run) → 0 < count → IsRunApart run runs → IsRunApart run (take_run count runs)
+IsRunApart-take count run [] some apart = tt
+IsRunApart-take count run (other ∷ others) some apart = let ih = IsRunApart-take count run others some apart.1 in grind (arith, common_steps, ih)
 
 -- a part of a run is apart from what the run is apart from
-pub IsApart-part : (run part : Run) (runs : List Run) → run.first ≤ part.first → part.first + part.pages ≤ run.first + run.pages → IsApart run runs → IsApart part runs
-IsApart-part run part [] low high apart = tt
-IsApart-part run part (other ∷ others) low high apart = let ih = IsApart-part run part others low high apart.1 in grind (arith, common_steps, ih)
+pub IsRunApart-part : (run part : Run) (runs : List Run) → run.first ≤ part.first → part.first + part.pages ≤ run.first + run.pages → IsRunApart run runs → IsRunApart part runs
+IsRunApart-part run part [] low high apart = tt
+IsRunApart-part run part (other ∷ others) low high apart = let ih = IsRunApart-part run part others low high apart.1 in grind (arith, common_steps, ih)
 
 AreSound-cut : (total count : ℕ) (run : Run) (runs : List Run) → 0 < count → AreSound total (run ∷ runs) → count ≤ run.pages → AreSound total (cut_run count run runs)
-AreSound-cut total count run runs some sound fits = let cut : Run = record { first = run.first + count; pages = run.pages - count } in let part : IsApart cut runs = IsApart-part run cut runs (omega arith) (omega arith) sound.2 in grind (arith, common_steps, part)
+AreSound-cut total count run runs some sound fits = let cut : Run = record { first = run.first + count; pages = run.pages - count } in let part : IsRunApart cut runs = IsRunApart-part run cut runs (omega arith) (omega arith) sound.2 in grind (arith, common_steps, part)
 
 pub AreSound-take : (total count : ℕ) (runs : List Run) → 0 < count → AreSound total runs → AreSound total (take_run count runs)
 AreSound-take total count [] some sound = tt
-AreSound-take total count (run ∷ runs) some sound = let ih = AreSound-take total count runs some sound.3 in let ap' = IsApart-take count run runs some sound.2 in let cut = AreSound-cut total count run runs some sound in grind (arith, common_steps, ih, ap', cut)
+AreSound-take total count (run ∷ runs) some sound = let ih = AreSound-take total count runs some sound.3 in let ap' = IsRunApart-take count run runs some sound.2 in let cut = AreSound-cut total count run runs some sound in grind (arith, common_steps, ih, ap', cut)
 
 pub is_covered-take : (total count : ℕ) (runs : List Run) (first page : ℕ) → AreSound total runs → first_fit count runs ≡ Some first → is_covered page (take_run count runs) ≡ (is_covered page runs && not (is_within page first count))
 is_covered-take total count [] first page sound found = absurd (cc)
@@ -77,22 +77,22 @@ pages_from-le total page (run ∷ runs) low sound = let ih = pages_from-le total
 -- each of these runs is this one, or apart from it
 abbrev IsApartBut : Run → List Run → Type 0
 IsApartBut run [] = Unit {0}
-IsApartBut run (other ∷ others) = ((run ≡ other) ⊎ AreApart run other) × IsApartBut run others
+IsApartBut run (other ∷ others) = ((run ≡ other) ⊎ AreRunsApart run other) × IsApartBut run others
 
 abbrev AreApartBut : List Run → List Run → Type 0
 AreApartBut [] all = Unit {0}
 AreApartBut (run ∷ runs) all = IsApartBut run all × AreApartBut runs all
 
-IsApartBut-from : (run : Run) (runs : List Run) → IsApart run runs → IsApartBut run runs
+IsApartBut-from : (run : Run) (runs : List Run) → IsRunApart run runs → IsApartBut run runs
 IsApartBut-from run [] apart = tt
 IsApartBut-from run (other ∷ others) apart = (inr apart.0, IsApartBut-from run others apart.1)
 
-AreApart-sym : (a b : Run) → AreApart a b → AreApart b a
-AreApart-sym a b h = elim h [ inl l ↦ inr l | inr r ↦ inl r ]
+AreRunsApart-sym : (a b : Run) → AreRunsApart a b → AreRunsApart b a
+AreRunsApart-sym a b h = elim h [ inl l ↦ inr l | inr r ↦ inl r ]
 
-AreApartBut-cons : (run : Run) (runs all : List Run) → IsApart run runs → AreApartBut runs all → AreApartBut runs (run ∷ all)
+AreApartBut-cons : (run : Run) (runs all : List Run) → IsRunApart run runs → AreApartBut runs all → AreApartBut runs (run ∷ all)
 AreApartBut-cons run [] all apart but = tt
-AreApartBut-cons run (other ∷ others) all apart but = ((inr (AreApart-sym run other apart.0), but.0), AreApartBut-cons run others all apart.1 but.1)
+AreApartBut-cons run (other ∷ others) all apart but = ((inr (AreRunsApart-sym run other apart.0), but.0), AreApartBut-cons run others all apart.1 but.1)
 
 AreApartBut-self : (total : ℕ) (runs : List Run) → AreSound total runs → AreApartBut runs runs
 AreApartBut-self total [] sound = tt
@@ -113,39 +113,39 @@ IsFree-head run other others free some many = let low = free run.first in let hi
 IsFree-tail : (run other : Run) (others : List Run) → IsFree run (other ∷ others) → IsFree run others
 IsFree-tail run other others free page low high = let h = free page low high in grind (arith, common_steps, h)
 
-IsApart-merged : (total : ℕ) (run : Run) (all runs : List Run) → 0 < run.pages → IsFree run runs → AreSound total runs → AreApartBut runs all → IsApart (merged_run run all) (others run runs)
+IsRunApart-merged : (total : ℕ) (run : Run) (all runs : List Run) → 0 < run.pages → IsFree run runs → AreSound total runs → AreApartBut runs all → IsRunApart (merged_run run all) (others run runs)
 unfolding others
-IsApart-merged total run all [] some free sound but = tt
-IsApart-merged total run all (other ∷ rest) some free sound but =
-    let ih = IsApart-merged total run all rest some (IsFree-tail run other rest free) sound.3 but.1 in
+IsRunApart-merged total run all [] some free sound but = tt
+IsRunApart-merged total run all (other ∷ rest) some free sound but =
+    let ih = IsRunApart-merged total run all rest some (IsFree-tail run other rest free) sound.3 but.1 in
     let sides = IsFree-head run other rest free some sound.0 in
     let before = apart_before run.first other all but.0 in
     let after = apart_after (run.first + run.pages) other all but.0 in
     let small = pages_before-le run.first all in
     grind (arith, common_steps, ih, sides, before, after, small)
 
-IsApart-others : (run other : Run) (runs : List Run) → IsApart other runs → IsApart other (others run runs)
+IsRunApart-others : (run other : Run) (runs : List Run) → IsRunApart other runs → IsRunApart other (others run runs)
 unfolding others
-IsApart-others run other [] apart = tt
-IsApart-others run other (next ∷ rest) apart = let ih = IsApart-others run other rest apart.1 in grind (arith, common_steps, ih)
+IsRunApart-others run other [] apart = tt
+IsRunApart-others run other (next ∷ rest) apart = let ih = IsRunApart-others run other rest apart.1 in grind (arith, common_steps, ih)
 
 AreSound-others : (total : ℕ) (run : Run) (runs : List Run) → AreSound total runs → AreSound total (others run runs)
 unfolding others
 AreSound-others total run [] sound = tt
-AreSound-others total run (other ∷ rest) sound = let ih = AreSound-others total run rest sound.3 in let apart = IsApart-others run other rest sound.2 in grind (arith, common_steps, ih, apart)
+AreSound-others total run (other ∷ rest) sound = let ih = AreSound-others total run rest sound.3 in let apart = IsRunApart-others run other rest sound.2 in grind (arith, common_steps, ih, apart)
 
 pub AreSound-give : (total : ℕ) (run : Run) (runs : List Run) → 0 < run.pages → run.first + run.pages ≤ total → IsFree run runs → AreSound total runs → AreSound total (give_run run runs)
 unfolding others
 AreSound-give total run runs some low free sound =
     let small = pages_before-le run.first runs in
     let high = pages_from-le total (run.first + run.pages) runs low sound in
-    (omega arith, omega arith, IsApart-merged total run runs runs some free sound (AreApartBut-self total runs sound), AreSound-others total run runs sound)
+    (omega arith, omega arith, IsRunApart-merged total run runs runs some free sound (AreApartBut-self total runs sound), AreSound-others total run runs sound)
 
-pages_before-none : (run : Run) (runs : List Run) → IsApart run runs → pages_before (run.first + run.pages) runs ≡ 0
+pages_before-none : (run : Run) (runs : List Run) → IsRunApart run runs → pages_before (run.first + run.pages) runs ≡ 0
 pages_before-none run [] apart = refl
 pages_before-none run (other ∷ rest) apart = let ih = pages_before-none run rest apart.1 in grind (arith, common_steps, ih)
 
-pages_from-none : (run : Run) (runs : List Run) → IsApart run runs → pages_from run.first runs ≡ 0
+pages_from-none : (run : Run) (runs : List Run) → IsRunApart run runs → pages_from run.first runs ≡ 0
 pages_from-none run [] apart = refl
 pages_from-none run (other ∷ rest) apart = let ih = pages_from-none run rest apart.1 in grind (arith, common_steps, ih)
 

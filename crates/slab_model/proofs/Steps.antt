@@ -3,7 +3,8 @@ use Rattle.std.proofs.Common.{ℕ, ◌≡◌, ◌+◌, ◌<◌, zero, suc, true,
 use Rattle.std.proofs.lemmas.Grind.{common_steps}
 use Rattle.slab_model.specs.declared.page.PageState.{PageState}
 use Rattle.slab_model.specs.Numbers.{is_member}
-use Rattle.slab_model.specs.Slab.{fill_pages, first_unused}
+use Rattle.slab_model.specs.State.{fill_pages}
+use Rattle.slab_model.specs.Blocks.{first_unused}
 
 -- one page more of a stretch
 pub fill_step : (state : PageState) (page left next : ℕ) (pages : List PageState) → left ≡ next + 1 → fill_pages state page left pages ≡ fill_pages state (page + 1) next (set pages page state)

@@ -3,18 +3,18 @@ use Rattle.std.specs.Prelude.{ℕ, ◌+◌, ◌-◌, ◌<◌, ◌≤◌, ◌⊎�
 use Rattle.slab_model.specs.declared.runs.Run.{Run}
 
 -- the two runs share no page and no border
-abbrev pub AreApart : Run → Run → Type 0
-AreApart a b = (a.first + a.pages < b.first) ⊎ (b.first + b.pages < a.first)
+abbrev pub AreRunsApart : Run → Run → Type 0
+AreRunsApart a b = (a.first + a.pages < b.first) ⊎ (b.first + b.pages < a.first)
 
 -- the run is apart from each of these
-abbrev pub IsApart : Run → List Run → Type 0
-IsApart run [] = Unit {0}
-IsApart run (other ∷ others) = AreApart run other × IsApart run others
+abbrev pub IsRunApart : Run → List Run → Type 0
+IsRunApart run [] = Unit {0}
+IsRunApart run (other ∷ others) = AreRunsApart run other × IsRunApart run others
 
 -- the list of free runs of a zone of so many pages: none is empty, and each is apart from all others
 abbrev pub AreSound : ℕ → List Run → Type 0
 AreSound count [] = Unit {0}
-AreSound count (run ∷ runs) = (0 < run.pages) × (run.first + run.pages ≤ count) × IsApart run runs × AreSound count runs
+AreSound count (run ∷ runs) = (0 < run.pages) × (run.first + run.pages ≤ count) × IsRunApart run runs × AreSound count runs
 
 -- the page is one of the pages from `first` on
 abbrev pub is_within : ℕ → ℕ → ℕ → Bool

@@ -1,5 +1,5 @@
 ghost use Rattle.std.specs.Prelude.{◌≡◌, ◌+◌, ◌-◌, ◌^◌, ◌<◌, ◌≤◌};
-ghost use Rattle.slab_model.specs.Slab.{count_grant as granted, count_fail as failed, count_return as returned};
+ghost use Rattle.slab_model.specs.Counting.{count_grant as granted, count_fail as failed, count_return as returned};
 
 use crate::stat::Stat;
 

@@ -1,5 +1,6 @@
-ghost use Rattle.std.specs.Prelude.{◌≡◌, ◌<◌, nat_eq, [], ◌∷◌, length, drop, IfOk, MatchOption};
-ghost use Rattle.slab_model.specs.Numbers.{is_member, without as without_one};
+ghost use Rattle.std.specs.Prelude.{◌≡◌, ◌<◌, [], ◌∷◌, length, drop, IfOk, MatchOption};
+ghost use Rattle.slab_model.specs.Inside.{place_in};
+ghost use Rattle.slab_model.specs.Numbers.{is_member, with_number, without as without_one};
 
 use std::alloc::Global;
 use std::marker::Model;
@@ -17,6 +18,20 @@ impl Model for Numbers {
     ghost Value = { List ℕ };
 
     ghost view = { λ n. n.kept.items };
+}
+
+/// How many numbers at the front of the list are at most `n`.
+fn place_of(numbers: &[u64], n: u64) -> usize
+    ensures { result ≡ place_in n numbers.now }
+{
+    let mut place = 0;
+    for number in numbers {
+        if n < *number {
+            return place;
+        }
+        place += 1;
+    }
+    place
 }
 
 impl Numbers {
@@ -45,11 +60,18 @@ impl Numbers {
         self.kept.first().copied()
     }
 
-    /// Whether the list has a number at all.
-    pub fn is_empty(&self) -> bool
-        ensures { result ≡ nat_eq (length self.now) 0 }
+    /// How many numbers the list has.
+    pub fn len(&self) -> u64
+        ensures { result ≡ length self.now }
     {
-        self.kept.is_empty()
+        self.kept.len() as u64
+    }
+
+    /// The numbers, in order.
+    pub fn as_slice(&self) -> &[u64]
+        ensures { result.now ≡ self.now }
+    {
+        &self.kept
     }
 
     /// Whether the number is in the list.
@@ -67,6 +89,19 @@ impl Numbers {
         let mut kept = Vec::new(alloc);
         kept.push(n)?;
         kept.extend_from_slice(&self.kept)?;
+        Ok(Numbers { kept })
+    }
+
+    /// The ascending list with this number in its place.
+    #[tactic(auto, using(crate::proofs::NumberLemmas::with_place, crate::proofs::NumberLemmas::place_in_le))]
+    pub fn with(&self, alloc: Global, n: u64) -> Result<Numbers, NoMemory>
+        ensures { IfOk result (λ ns. ns ≡ with_number n self.now) }
+    {
+        let place = place_of(&self.kept, n);
+        let mut kept = Vec::with_capacity(alloc, self.kept.len() + 1)?;
+        kept.extend_from_slice(&self.kept[..place])?;
+        kept.push(n)?;
+        kept.extend_from_slice(&self.kept[place..])?;
         Ok(Numbers { kept })
     }
 

@@ -9,6 +9,6 @@ pub enum PageState {
     First { pages: u64 },
     /// A later page of a used run.
     Later,
-    /// A page of a class, with its used indexes, the one that was granted last first.
+    /// A page of a class, with its used indexes, ascending.
     Class { class: u32, used: Numbers },
 }

@@ -1,13 +1,17 @@
 ghost use Rattle.std.specs.Prelude.{◌≡◌, ◌<◌, ◌+◌, ◌≤◌, ◌^◌, [], ◌∷◌, length, IfOk, replicate};
 ghost use Rattle.slab_model.specs.declared.page.PageState.{PageState as State};
 ghost use Rattle.slab_model.specs.declared.page.PageState.TheVariants.{Free, First, Later};
-ghost use Rattle.slab_model.specs.Geometry.{class_count};
-ghost use Rattle.slab_model.specs.Pages.{IsOfClass};
-ghost use Rattle.slab_model.specs.Slab.{used_in, lowest_unused as lowest_of, is_full as full_of, fill_pages, use_pages as used_pages};
+ghost use Rattle.slab_model.specs.Geometry.{IsInLimits};
+ghost use Rattle.slab_model.specs.Inside.{IsOfClass};
+ghost use Rattle.slab_model.specs.State.{fill_pages};
+ghost use Rattle.slab_model.specs.Blocks.{used_in, lowest_unused as lowest_of, is_full as full_of};
+ghost use Rattle.slab_model.specs.Grant.{use_pages as used_pages};
+ghost use Rattle.slab_model.specs.Soundness.{AreUsed};
 
-use crate::geometry::{blocks_in_page, first_index};
+use crate::geometry::{first_index, usable_blocks};
 use crate::numbers::Numbers;
 use crate::page::PageState;
+use crate::shape::Shape;
 use std::alloc::Global;
 use zone_outside::NoMemory;
 
@@ -23,25 +27,32 @@ pub fn indexes(page: &PageState) -> &Numbers
 }
 
 /// The lowest index of a page of the class that can be granted and isn't used, or the number of its blocks.
-pub fn lowest_unused(class: u32, used: &Numbers) -> u64
-    requires { class < class_count }
-    ensures { result ≡ lowest_of class used.now }
+///
+/// The used indexes ascend from the first index on, so the first of them that isn't as great as its place leaves a gap.
+pub fn lowest_unused(shape: Shape, class: u32, used: &Numbers) -> u64
+    requires limits { IsInLimits shape }
+    requires used { AreUsed shape class used.now }
+    ensures { result ≡ lowest_of shape class used.now }
 {
-    let blocks = blocks_in_page(class);
-    for index in first_index(class)..blocks {
-        if !used.contains(index) {
+    let mut index = first_index(shape, class);
+    let numbers = used.as_slice();
+    for number in numbers {
+        if *number != index {
             return index;
         }
+        index += 1;
     }
-    blocks
+    index
 }
 
 /// Whether all blocks that a page of the class can grant are used.
-pub fn is_full(class: u32, used: &Numbers) -> bool
-    requires { class < class_count }
-    ensures { result ≡ full_of class used.now }
+#[tactic(auto, using(crate::proofs::StateLemmas::full_length))]
+pub fn is_full(shape: Shape, class: u32, used: &Numbers) -> bool
+    requires limits { IsInLimits shape }
+    requires used { AreUsed shape class used.now }
+    ensures { result ≡ full_of shape class used.now }
 {
-    lowest_unused(class, used) == blocks_in_page(class)
+    used.len() == usable_blocks(shape, class)
 }
 
 /// So many free pages.

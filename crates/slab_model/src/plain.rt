@@ -1,9 +1,14 @@
 ghost use Rattle.std.specs.Prelude.{◌≡◌, ◌<◌, ◌≤◌, [], replicate, IfOk, OnOk, OnErr};
-ghost use Rattle.slab_model.specs.Geometry.{least_zone, greatest_zone, class_count};
-ghost use Rattle.slab_model.specs.Parts.{offset_of, slab_of};
-ghost use Rattle.slab_model.specs.Slab.{no_stat, opened, grant as granted, give_back as given_back, IsLive, IsSound, free_pages as free_pages_of, live_bytes as live_bytes_of, stat_of};
+ghost use Rattle.slab_model.specs.Geometry.{IsInLimits, shape_of, least_zone, greatest_zone, class_count as class_count_of};
+ghost use Rattle.slab_model.specs.Inside.{offset_of, slab_of};
+ghost use Rattle.slab_model.specs.State.{Slab, classes_in, no_stat, fresh_slab, stat_of};
+ghost use Rattle.slab_model.specs.Blocks.{IsLive, live_bytes as live_bytes_of};
+ghost use Rattle.slab_model.specs.Counting.{free_pages as free_pages_of};
+ghost use Rattle.slab_model.specs.Grant.{grant as granted};
+ghost use Rattle.slab_model.specs.Return.{give_back as given_back};
+ghost use Rattle.slab_model.specs.Soundness.{IsSound};
 
-use crate::geometry::{CLASS_COUNT, page_count};
+use crate::geometry::{PAGE_SHIFT, class_count, page_count};
 use crate::grants::grant;
 use crate::live::live_bytes;
 use crate::numbers::Numbers;
@@ -11,6 +16,7 @@ use crate::pages::free_pages;
 use crate::parts::Parts;
 use crate::returns::give_back;
 use crate::runs::{Run, page_total};
+use crate::shape::Shape;
 use crate::stat::Stat;
 use std::alloc::Global;
 use std::marker::Model;
@@ -24,8 +30,9 @@ pub struct PlainSlab {
 }
 
 impl Model for PlainSlab {
-    ghost use Rattle.slab_model.specs.Slab.{Slab, IsSound};
-    ghost use Rattle.slab_model.specs.Parts.{slab_of};
+    ghost use Rattle.slab_model.specs.State.{Slab};
+    ghost use Rattle.slab_model.specs.Soundness.{IsSound};
+    ghost use Rattle.slab_model.specs.Inside.{slab_of};
 
     ghost Value = { Slab };
 
@@ -35,22 +42,26 @@ impl Model for PlainSlab {
 }
 
 /// An empty list for each class.
-fn no_lists(alloc: Global) -> Result<Vec<Numbers>, NoMemory>
-    ensures { IfOk result (λ v. v.items ≡ replicate class_count []) }
+fn no_lists(alloc: Global, shape: Shape) -> Result<Vec<Numbers>, NoMemory>
+    requires { IsInLimits shape }
+    ensures { IfOk result (λ v. v.items ≡ replicate (class_count_of shape) []) }
 {
-    let mut lists = Vec::with_capacity(alloc, CLASS_COUNT as usize)?;
-    for _class in 0..CLASS_COUNT {
+    let count = class_count(shape);
+    let mut lists = Vec::with_capacity(alloc, count as usize)?;
+    for _class in 0..count {
         lists.push(Numbers::empty(alloc))?;
     }
     Ok(lists)
 }
 
 /// Statistics that have counted nothing, for each class.
-fn no_stats(alloc: Global) -> Result<Vec<Stat>, NoMemory>
-    ensures { IfOk result (λ v. v.items ≡ replicate class_count no_stat) }
+fn no_stats(alloc: Global, shape: Shape) -> Result<Vec<Stat>, NoMemory>
+    requires { IsInLimits shape }
+    ensures { IfOk result (λ v. v.items ≡ replicate (class_count_of shape) no_stat) }
 {
-    let mut stats = Vec::with_capacity(alloc, CLASS_COUNT as usize)?;
-    for _class in 0..CLASS_COUNT {
+    let count = class_count(shape);
+    let mut stats = Vec::with_capacity(alloc, count as usize)?;
+    for _class in 0..count {
         stats.push(Stat {
             total: 0,
             used: 0,
@@ -62,22 +73,21 @@ fn no_stats(alloc: Global) -> Result<Vec<Stat>, NoMemory>
 }
 
 /// The lists of a fresh pool.
-fn fresh_parts(alloc: Global, bytes: u64) -> Result<Parts, NoMemory>
-    requires large { least_zone ≤ bytes }
-    requires small { bytes ≤ greatest_zone }
-    ensures { IfOk result (λ p. slab_of p ≡ opened bytes) }
+fn fresh_parts(alloc: Global, shape: Shape) -> Result<Parts, NoMemory>
+    requires { IsInLimits shape }
+    ensures { IfOk result (λ p. slab_of p ≡ fresh_slab shape) }
 {
-    let count = page_count(bytes);
+    let count = page_count(shape);
     let pages = free_pages(alloc, count)?;
     let mut runs = Vec::with_capacity(alloc, 1)?;
     runs.push(Run {
         first: 0,
         pages: count,
     })?;
-    let lists = no_lists(alloc)?;
-    let stats = no_stats(alloc)?;
+    let lists = no_lists(alloc, shape)?;
+    let stats = no_stats(alloc, shape)?;
     Ok(Parts {
-        bytes,
+        shape,
         pages,
         runs,
         lists,
@@ -90,11 +100,15 @@ impl PlainSlab {
     ///
     /// `NoMemory` comes where there is no memory for its lists, and for nothing else. No size is refused here.
     pub fn open(alloc: Global, bytes: u64) -> Result<PlainSlab, NoMemory>
-        requires large { least_zone ≤ bytes }
+        requires large { least_zone (shape_of bytes) ≤ bytes }
         requires small { bytes ≤ greatest_zone }
-        ensures { IfOk result (λ s. s ≡ opened bytes) }
+        ensures { IfOk result (λ s. s ≡ fresh_slab (shape_of bytes)) }
     {
-        let parts = fresh_parts(alloc, bytes)?;
+        let shape = Shape {
+            bytes,
+            page_shift: PAGE_SHIFT,
+        };
+        let parts = fresh_parts(alloc, shape)?;
         Ok(PlainSlab { parts })
     }
 
@@ -137,7 +151,7 @@ impl PlainSlab {
 
     /// The statistics of a class.
     pub fn stat(&self, class: u32) -> Stat
-        requires { class < class_count }
+        requires { class < classes_in self.now }
         ensures { result ≡ stat_of self.now class }
     {
         self.parts.stats[class as usize]

@@ -2,11 +2,14 @@ ghost use Rattle.std.specs.Prelude.{◌≡◌, ℕ, ◌<◌, ◌≤◌, [], ◌�
 ghost use Rattle.slab_model.specs.declared.page.PageState.TheVariants.{First, Class};
 ghost use Rattle.slab_model.specs.Geometry.{class_count};
 ghost use Rattle.slab_model.specs.Numbers.{without};
-ghost use Rattle.slab_model.specs.Parts.{slab_of};
-ghost use Rattle.slab_model.specs.Slab.{Slab, IsSound, IsLive, list_of, page_at, used_in, give_pages as given_pages, give_in_page as given_in_page, give_back as given_back};
+ghost use Rattle.slab_model.specs.Inside.{slab_of};
+ghost use Rattle.slab_model.specs.State.{Slab, list_of, page_at};
+ghost use Rattle.slab_model.specs.Blocks.{IsLive, used_in};
+ghost use Rattle.slab_model.specs.Return.{give_pages as given_pages, give_in_page as given_in_page, give_back as given_back};
+ghost use Rattle.slab_model.specs.Soundness.{IsSound};
 
 use crate::counts::count_return;
-use crate::geometry::{PAGE_SIZE, class_size, start_offset, usable_blocks};
+use crate::geometry::{class_size, page_size, start_offset, usable_blocks};
 use crate::page::PageState;
 use crate::pages::{clear_pages, indexes, is_full};
 use crate::parts::Parts;
@@ -34,6 +37,7 @@ fn give_pages(parts: &mut Parts, alloc: Global, page: u64, count: u64) -> Result
 /// Gives the last block of a page of the class back, and the page with it.
 fn give_last(parts: &mut Parts, alloc: Global, page: u64, class: u32) -> Result<(), NoMemory>
     requires sound { IsSound (slab_of parts.old) }
+    requires known { class < class_count parts.old.shape }
     requires class { page_at parts.old.pages.items page ≡ Class class (used_in (page_at parts.old.pages.items page)) }
     ensures ok { OnOk result (slab_of parts.new ≡ given_in_page (slab_of parts.old) page class (used_in (page_at parts.old.pages.items page)) []) }
     ensures err { OnErr result (parts.new ≡ parts.old) }
@@ -47,7 +51,7 @@ fn give_last(parts: &mut Parts, alloc: Global, page: u64, class: u32) -> Result<
     parts.pages[page as usize] = PageState::Free;
     parts.runs = runs;
     parts.lists[class as usize] = list;
-    parts.stats[class as usize] = count_return(parts.stats[class as usize], usable_blocks(class));
+    parts.stats[class as usize] = count_return(parts.stats[class as usize], usable_blocks(parts.shape, class));
     Ok(())
 }
 
@@ -60,16 +64,18 @@ fn give_in_page(
     index: u64,
 ) -> Result<(), NoMemory>
     requires sound { IsSound (slab_of parts.old) }
+    requires known { class < class_count parts.old.shape }
     requires class { page_at parts.old.pages.items page ≡ Class class (used_in (page_at parts.old.pages.items page)) }
     ensures ok { OnOk result (slab_of parts.new ≡ given_in_page (slab_of parts.old) page class (used_in (page_at parts.old.pages.items page)) (without index (used_in (page_at parts.old.pages.items page)))) }
     ensures err { OnErr result (parts.new ≡ parts.old) }
 {
     let used = indexes(&parts.pages[page as usize]);
+    let full = is_full(parts.shape, class, used);
     let left = used.without(alloc, index)?;
-    if left.is_empty() {
+    if left.len() == 0 {
         return give_last(parts, alloc, page, class);
     }
-    if is_full(class, used) {
+    if full {
         let list = parts.lists[class as usize].with_first(alloc, page)?;
         parts.lists[class as usize] = list;
     }
@@ -85,8 +91,9 @@ pub fn give_back(parts: &mut Parts, alloc: Global, at: u64) -> Result<(), NoMemo
     ensures ok { OnOk result (slab_of parts.new ≡ given_back (slab_of parts.old) at) }
     ensures err { OnErr result (parts.new ≡ parts.old) }
 {
-    let offset = at - start_offset(parts.bytes);
-    let page = offset / PAGE_SIZE;
+    let size = page_size(parts.shape);
+    let offset = at - start_offset(parts.shape);
+    let page = offset / size;
     match &parts.pages[page as usize] {
         PageState::First { pages } => {
             let count = *pages;
@@ -94,7 +101,7 @@ pub fn give_back(parts: &mut Parts, alloc: Global, at: u64) -> Result<(), NoMemo
         }
         PageState::Class { class, used: _ } => {
             let class = *class;
-            let index = offset % PAGE_SIZE / class_size(class);
+            let index = offset % size / class_size(class);
             give_in_page(parts, alloc, page, class, index)
         }
         _ => Ok(()),

@@ -1,11 +1,12 @@
 -- A run comes to the head of the list of free runs.
-use Rattle.std.proofs.Common.{ℕ, ◌≡◌, ◌≢◌, ◌⊎◌, ◌+◌, ◌*◌, ◌-◌, ◌/◌, ◌<◌, ◌≤◌, true, false, List, [], ◌∷◌, sym, subst, ◌∙◌, refl, arith, inl, inr}
+use Rattle.std.proofs.Common.{ℕ, ◌≡◌, ◌≢◌, ◌⊎◌, ◌+◌, ◌/◌, ◌<◌, ◌≤◌, true, false, List, [], ◌∷◌, sym, subst, ◌∙◌, refl, arith, inl, inr}
 use Rattle.std.proofs.lemmas.Bool.{cases_lt}
 use Rattle.slab_model.specs.declared.runs.Run.{Run}
-use Rattle.slab_model.specs.Runs.{AreApart, IsApart, AreSound, is_covered}
-use Rattle.slab_pages.specs.Places.{free_head, pfree, descriptor, next_at, prev_at, IsPlace, Links, KeepsOthers, is_run_word}
+use Rattle.slab_model.specs.Runs.{AreRunsApart, IsRunApart, AreSound, is_covered}
+use Rattle.slab_pages.specs.Places.{free_head, pfree_word, descriptor, next_at, prev_at, IsPlace, Links, KeepsOthers, is_run_word, descriptor_word, descriptor_page, free_word}
 use Rattle.slab_pages.specs.Layout.{LaysFrom}
-use Rattle.slab_pages.specs.Steps.{SameWords, LaysList, IsBlank, BeginsRun, IsCleared, Relists}
+use Rattle.slab_pages.specs.Frames.{SameWords}
+use Rattle.slab_pages.specs.Steps.{LaysList, IsBlank, BeginsRun, IsCleared, Relists}
 use Rattle.slab_pages.proofs.PlaceLemmas.{descriptor-word, descriptor-head, descriptor-injective, descriptor-other, SameWords-then, Links-slab, Links-next, Links-prev, Links-prev_head}
 use Rattle.slab_pages.proofs.ListLemmas.{HasTail-kept, LaysFrom-kept, covered-first, covered-rest, covers-apart}
 use Rattle.slab_pages.proofs.UnlinkLemmas.{beyond_run, IsNode, node_place, links_free, links_kept, kept_then}
@@ -19,7 +20,7 @@ begun_other old new run page h beyond = record {
 }
 
 pub begun_head : (old new : List ℕ) (run : Run) → BeginsRun old new run → SameWords old new free_head
-begun_head old new run h = record { slab = h.others 6 (inl (omega arith)); next = h.others 7 (inl (omega arith)); prev = h.others 8 (inl (omega arith)) }
+begun_head old new run h = record { slab = h.others free_word (inl (omega arith)); next = h.others (free_word + 1) (inl (omega arith)); prev = h.others (free_word + 2) (inl (omega arith)) }
 
 -- words outside a part of the runs
 pub begun_kept : (old new : List ℕ) (run : Run) (runs : List Run) → ((page : ℕ) → run.first ≤ page → page < run.first + run.pages → is_covered page runs ≡ true) → BeginsRun old new run → KeepsOthers runs old new
@@ -27,12 +28,12 @@ begun_kept old new run runs covered h = record {
   same_length = h.same_length;
   others = λ w list is. h.others w (far runs run w covered is);
 } where
-  far : (runs : List Run) (run : Run) (w : ℕ) → ((page : ℕ) → run.first ≤ page → page < run.first + run.pages → is_covered page runs ≡ true) → is_run_word runs w ≡ false → (w < 88 + 3 * run.first) ⊎ (88 + 3 * (run.first + run.pages) ≤ w)
-  far runs run w covered is = elim (cases_lt w (88 + 3 * run.first)) [
+  far : (runs : List Run) (run : Run) (w : ℕ) → ((page : ℕ) → run.first ≤ page → page < run.first + run.pages → is_covered page runs ≡ true) → is_run_word runs w ≡ false → (w < descriptor_word run.first) ⊎ (descriptor_word (run.first + run.pages) ≤ w)
+  far runs run w covered is = elim (cases_lt w (descriptor_word run.first)) [
     | inl l ↦ inl l
-    | inr g ↦ elim (cases_lt w (88 + 3 * (run.first + run.pages))) [
+    | inr g ↦ elim (cases_lt w (descriptor_word (run.first + run.pages))) [
       | inl inside ↦
-          let page = (w - 88) / 3 in
+          let page = descriptor_page w in
           let c = covered page (omega (arith, g)) (omega (arith, g, inside)) in
           elim (beyond_run runs page w c is) [ inl l ↦ absurd (omega (arith, l, g, descriptor-word page)) | inr after ↦ absurd (omega (arith, after, g, descriptor-word page)) ]
       | inr after ↦ inr after
@@ -52,11 +53,11 @@ pub first_node : (words : List ℕ) (count : ℕ) (runs : List Run) → AreSound
 first_node words count [] sound h = inl h
 first_node words count (y ∷ ys) sound h = inr (y.first, h.0, covered-first y ys y.first (omega arith) (omega (arith, sound.0)))
 
-apart_page : (run y : Run) (page : ℕ) → AreApart run y → y.first ≤ page → page < y.first + y.pages → (page < run.first) ⊎ (run.first + run.pages ≤ page)
+apart_page : (run y : Run) (page : ℕ) → AreRunsApart run y → y.first ≤ page → page < y.first + y.pages → (page < run.first) ⊎ (run.first + run.pages ≤ page)
 apart_page run y page apart low high = elim apart [ inl l ↦ inr (omega (arith, l, low)) | inr g ↦ inl (omega (arith, g, high)) ]
 
 -- the runs follow the new one
-follow : (count : ℕ) (old mid next new : List ℕ) (run : Run) (runs : List Run) → 0 < run.pages → IsApart run runs → AreSound count runs → LaysFrom old free_head runs → BeginsRun old mid run → Links mid next (descriptor run.first) (next_at old free_head) → Links next new free_head (descriptor run.first) → LaysFrom new (descriptor run.first) runs
+follow : (count : ℕ) (old mid next new : List ℕ) (run : Run) (runs : List Run) → 0 < run.pages → IsRunApart run runs → AreSound count runs → LaysFrom old free_head runs → BeginsRun old mid run → Links mid next (descriptor run.first) (next_at old free_head) → Links next new free_head (descriptor run.first) → LaysFrom new (descriptor run.first) runs
 follow count old mid next new run [] some apart sound h begins one two =
     Links-next next new free_head (descriptor run.first) (descriptor run.first) (inl refl) (inr (run.first, refl)) (inr (run.first, refl)) (descriptor-head run.first) two ∙ one.next ∙ h
 follow count old mid next new run (y ∷ ys) some apart sound h begins one two =
@@ -119,9 +120,9 @@ added count runs run old mid next new h clear begins one two =
         );
       };
       kept = kept_then (run ∷ runs) old next new (kept_then (run ∷ runs) old mid next (begun_kept old mid run (run ∷ runs) (λ page low high. covered-first run runs page low high) begins) (links_kept mid next o n (run ∷ runs) here there one)) (links_kept next new free_head o (run ∷ runs) (inl refl) here two);
-      free = links_free next new free_head o head po two ∙ links_free mid next o n po pn one ∙ begins.others pfree (inl (omega arith));
+      free = links_free next new free_head o head po two ∙ links_free mid next o n po pn one ∙ begins.others pfree_word (inl (omega arith));
     } where
-      not_node : (runs : List Run) (run : Run) (page n : ℕ) → IsApart run runs → run.first ≤ page → page < run.first + run.pages → IsNode n runs → descriptor page ≢ n
+      not_node : (runs : List Run) (run : Run) (page n : ℕ) → IsRunApart run runs → run.first ≤ page → page < run.first + run.pages → IsNode n runs → descriptor page ≢ n
       not_node runs run page n apart low high node e = elim node [
         | inl at ↦ descriptor-head page (e ∙ at)
         | inr m ↦ let same = descriptor-injective page m.0 (e ∙ m.1) in elim (covers-apart run runs m.0 apart m.2) [ inl l ↦ omega (arith, l, same, low) | inr g ↦ omega (arith, g, same, high) ]

@@ -5,7 +5,7 @@ use Rattle.std.proofs.lemmas.Bool.{cases_eq}
 use Rattle.slab_model.specs.declared.runs.Run.{Run}
 use Rattle.slab_model.specs.Runs.{AreSound, pages_from, first_fit, cut_run, take_run}
 use Rattle.slab_model.proofs.RunLemmas.{AreSound-take}
-use Rattle.slab_pages.specs.Places.{free_head, pfree, descriptor, slab_at, next_at, prev_at, IsPlace, Links}
+use Rattle.slab_pages.specs.Places.{free_head, pfree_word, descriptor, slab_at, next_at, prev_at, IsPlace, Links}
 use Rattle.slab_pages.specs.Layout.{LaysFrom}
 use Rattle.slab_pages.specs.Steps.{LaysList, IsBlank, BeginsRun, Relists, Unlinks, change, without_run}
 use Rattle.slab_pages.proofs.PlaceLemmas.{descriptor-head, descriptor-other, SameWords-then, Links-slab, Links-next, Links-prev, Links-prev_head}
@@ -106,7 +106,7 @@ taken_front count n first runs old mid next new h some found less begins one two
         linked = subst (λ (rs : List Run). LaysFrom new free_head rs) (take-change count n runs first some h.sound found) (relaid count old new first (cut_run n) free_head runs head (λ page c. descriptor-head page) h.sound h.linked listed near local);
       };
       kept = kept_then runs old next new (kept_then runs old mid next (begun_kept old mid rest runs covered begins) (links_kept mid next o b runs no nb one)) (links_kept next new a o runs na no two);
-      free = links_free next new a o pa po two ∙ links_free mid next o b po pb one ∙ begins.others pfree (inl (omega arith));
+      free = links_free next new a o pa po two ∙ links_free mid next o b po pb one ∙ begins.others pfree_word (inl (omega arith));
     } where
       apart_rest : (first n pages page : ℕ) → n < pages → (page < first) ⊎ (first + pages ≤ page) → (page < first + n) ⊎ (first + n + (pages - n) ≤ page)
       apart_rest first n pages page less beyond = elim beyond [ inl l ↦ inl (omega (arith, l)) | inr g ↦ inr (omega (arith, g, less)) ]

@@ -1,10 +1,10 @@
 -- What the code meets at the descriptors that it reads.
-use Rattle.std.proofs.Common.{ℕ, ◌≡◌, ◌≢◌, ◌+◌, ◌*◌, ◌-◌, ◌/◌, ◌%◌, ◌^◌, ◌<◌, ◌≤◌, false, List, length, sym, ap, subst, ◌∙◌, refl, arith, inl, inr}
+use Rattle.std.proofs.Common.{ℕ, ◌≡◌, ◌≢◌, ◌+◌, ◌-◌, ◌/◌, ◌%◌, ◌^◌, ◌<◌, ◌≤◌, false, List, length, sym, ap, subst, ◌∙◌, refl, arith, inl, inr}
 use Rattle.std.proofs.lemmas.Grind.{common_steps}
 use Rattle.std.proofs.lemmas.Bool.{cases_lt}
 use Rattle.slab_model.specs.declared.runs.Run.{Run}
 use Rattle.slab_model.specs.Runs.{is_covered, pages_from, pages_before}
-use Rattle.slab_pages.specs.Places.{free_head, descriptor, slab_at, next_at, prev_at, HasWords, Links}
+use Rattle.slab_pages.specs.Places.{free_head, descriptor, slab_at, next_at, prev_at, HasWords, Links, page_limit, descriptor_word}
 use Rattle.slab_pages.specs.Layout.{IsBusy}
 use Rattle.slab_pages.specs.Steps.{LaysList, SetsWords, FillsRun, Detaches, IsAfter, IsBefore, MarksUsed, start_at}
 use Rattle.slab_pages.proofs.PlaceLemmas.{descriptor-word, descriptor-zero, HasWords-kept}
@@ -25,8 +25,8 @@ node_room count words runs o h node = elim node [
 
 pub record IsIn (count : ℕ) (words : List ℕ) (first pages : ℕ) : Type 0 where
   pub within : first + pages ≤ count
-  pub small : first + pages ≤ 16384
-  pub room : 88 + 3 * (first + pages) ≤ length words
+  pub small : first + pages ≤ page_limit
+  pub room : descriptor_word (first + pages) ≤ length words
   pub word : descriptor first / 8 + 2 < length words
 
 pub listed_in : (count : ℕ) (words : List ℕ) (runs : List Run) (first : ℕ) → LaysList count words runs → 0 < pages_from first runs → IsIn count words first (pages_from first runs)
@@ -117,7 +117,7 @@ pub record Ends (words : List ℕ) (page pages : ℕ) : Type 0 where
   pub type_is : prev_at words (descriptor (page - 1)) % 4 ≡ 0
   pub start : start_at words (descriptor (page - 1)) ≡ descriptor (page - pages)
   pub linked : next_at words (descriptor (page - pages)) ≢ 0
-  pub within : page - pages + pages ≤ 16384
+  pub within : page - pages + pages ≤ page_limit
 
 start-here : (words : List ℕ) (o : ℕ) → slab_at words o ≢ 0 → start_at words o ≡ o
 start-here words o ne = grind (arith, common_steps)
@@ -156,7 +156,7 @@ run_ends count words runs page h some =
     ]
 
 -- the place before a page lies in the words
-pub before_in : (count : ℕ) (words : List ℕ) (runs : List Run) (page : ℕ) → LaysList count words runs → IsBefore count words runs page → (0 < page) × (page ≤ 16384) × (descriptor (page - 1) / 8 + 2 < length words)
+pub before_in : (count : ℕ) (words : List ℕ) (runs : List Run) (page : ℕ) → LaysList count words runs → IsBefore count words runs page → (0 < page) × (page ≤ page_limit) × (descriptor (page - 1) / 8 + 2 < length words)
 before_in count words runs page h before = let p = bound before in (p.0, omega (arith, p.1, h.small), omega (arith, p.0, p.1, h.room, descriptor-word (page - 1))) where
   bound : IsBefore count words runs page → (0 < page) × (page ≤ count)
   bound before = elim before [

@@ -1,14 +1,15 @@
 -- Taking and giving back whole runs.
-use Rattle.std.proofs.Common.{ℕ, ◌≡◌, ◌≢◌, ◌⊎◌, zero, suc, ◌+◌, ◌*◌, ◌-◌, ◌/◌, ◌%◌, ◌^◌, ◌<◌, ◌≤◌, Bool, true, false, not, ◌&&◌, ◌||◌, List, [], ◌∷◌, length, get_or, set, sym, ap, subst, ◌∙◌, refl, arith, inl, inr, Some, min}
+use Rattle.std.proofs.Common.{ℕ, ◌≡◌, ◌≢◌, ◌⊎◌, zero, suc, ◌+◌, ◌-◌, ◌/◌, ◌%◌, ◌^◌, ◌<◌, ◌≤◌, Bool, true, false, not, ◌&&◌, ◌||◌, List, [], ◌∷◌, length, get_or, set, sym, ap, subst, ◌∙◌, refl, arith, inl, inr, Some, min}
 use Rattle.std.specs.Prelude.{filter, if◌then◌else◌}
 use Rattle.std.proofs.lemmas.Grind.{common_steps}
 use Rattle.std.proofs.lemmas.Bool.{cases_eq, cases_lt}
 use Rattle.slab_model.specs.declared.runs.Run.{Run}
-use Rattle.slab_model.specs.Runs.{IsApart, AreSound, is_covered, page_total, pages_from, pages_before, merged_run, is_beside, first_fit, take_run, give_run}
+use Rattle.slab_model.specs.Runs.{IsRunApart, AreSound, is_covered, page_total, pages_from, pages_before, merged_run, is_beside, first_fit, take_run, give_run}
 use Rattle.slab_model.proofs.RunLemmas.{AreSound-give, is_covered-give, is_covered-take, page_total-take, first_fit-covered, is_within-in}
-use Rattle.slab_pages.specs.Places.{free_head, pfree, descriptor, KeepsOthers, is_list_word, is_run_word}
+use Rattle.slab_pages.specs.Places.{free_head, pfree_word, descriptor, KeepsOthers, is_list_word, is_run_word, descriptor_word, descriptor_page, free_word}
 use Rattle.slab_pages.specs.Layout.{IsBusy, CanComeBack}
-use Rattle.slab_pages.specs.Steps.{SameWords, LaysList, FillsRun, Detaches, IsCleared, Relists, MarksUsed, TakesRun, GivesRun, IsAfter, IsBefore, without_run}
+use Rattle.slab_pages.specs.Frames.{SameWords}
+use Rattle.slab_pages.specs.Steps.{LaysList, FillsRun, Detaches, IsCleared, Relists, MarksUsed, TakesRun, GivesRun, IsAfter, IsBefore, without_run}
 use Rattle.slab_pages.proofs.PlaceLemmas.{descriptor-word, HasWords-kept, SameWords-then}
 use Rattle.slab_pages.proofs.WriteLemmas.{get-written, get-read, length-written}
 use Rattle.slab_pages.proofs.ListLemmas.{covers-apart}
@@ -39,7 +40,7 @@ unfolding listed_below
 listed_below-none zero = refl
 listed_below-none (suc k) = listed_below-none k
 
-listed_below-cons : (k : ℕ) (x : Run) (xs : List Run) → 0 < x.pages → IsApart x xs → listed_below k (x ∷ xs) ≡ listed_below k xs + overlap k x
+listed_below-cons : (k : ℕ) (x : Run) (xs : List Run) → 0 < x.pages → IsRunApart x xs → listed_below k (x ∷ xs) ≡ listed_below k xs + overlap k x
 unfolding listed_below overlap
 listed_below-cons zero x xs some apart = omega arith
 listed_below-cons (suc k) x xs some apart =
@@ -72,76 +73,76 @@ kept_words runs old new page h free = record {
   next = h.others (descriptor page / 8 + 1) (far page 1 (descriptor page / 8 + 1) (omega (arith, descriptor-word page))) (run page 1 (descriptor page / 8 + 1) (omega arith) (omega (arith, descriptor-word page)) runs free);
   prev = h.others (descriptor page / 8 + 2) (far page 2 (descriptor page / 8 + 2) (omega (arith, descriptor-word page))) (run page 2 (descriptor page / 8 + 2) (omega arith) (omega (arith, descriptor-word page)) runs free);
 } where
-  far : (page j w : ℕ) → w ≡ 88 + 3 * page + j → is_list_word w ≡ false
+  far : (page j w : ℕ) → w ≡ descriptor_word page + j → is_list_word w ≡ false
   far page j w e = grind (arith, common_steps)
 
-  run : (page j w : ℕ) → j ≤ 2 → w ≡ 88 + 3 * page + j → (runs : List Run) → is_covered page runs ≡ false → is_run_word runs w ≡ false
-  run page j w small e runs free = let at : (w - 88) / 3 ≡ page = omega (arith, small, e) in let here : is_covered ((w - 88) / 3) runs ≡ false = ap (λ k. is_covered k runs) at ∙ free in grind (arith, common_steps)
+  run : (page j w : ℕ) → j ≤ 2 → w ≡ descriptor_word page + j → (runs : List Run) → is_covered page runs ≡ false → is_run_word runs w ≡ false
+  run page j w small e runs free = let at : descriptor_page w ≡ page = omega (arith, small, e) in let here : is_covered (descriptor_page w) runs ≡ false = ap (λ k. is_covered k runs) at ∙ free in grind (arith, common_steps)
 
 -- what keeps all but a part keeps all but the whole
 pub kept_within : (part whole : List Run) (old new : List ℕ) → ((page : ℕ) → is_covered page part ≡ true → is_covered page whole ≡ true) → KeepsOthers part old new → KeepsOthers whole old new
-kept_within part whole old new more h = record { same_length = h.same_length; others = λ w list run. h.others w list (smaller part whole w (more ((w - 88) / 3)) run) } where
-  smaller : (part whole : List Run) (w : ℕ) → (is_covered ((w - 88) / 3) part ≡ true → is_covered ((w - 88) / 3) whole ≡ true) → is_run_word whole w ≡ false → is_run_word part w ≡ false
+kept_within part whole old new more h = record { same_length = h.same_length; others = λ w list run. h.others w list (smaller part whole w (more (descriptor_page w)) run) } where
+  smaller : (part whole : List Run) (w : ℕ) → (is_covered (descriptor_page w) part ≡ true → is_covered (descriptor_page w) whole ≡ true) → is_run_word whole w ≡ false → is_run_word part w ≡ false
   smaller part whole w more h = grind (arith, common_steps, more)
 
 -- words of pages that are listed afterwards
-pub range_kept : (runs : List Run) (old new : List ℕ) (first n : ℕ) → ((page : ℕ) → first ≤ page → page < first + n → is_covered page runs ≡ true) → length new ≡ length old → ((w : ℕ) → (w < 88 + 3 * first) ⊎ (88 + 3 * (first + n) ≤ w) → get_or new w 0 ≡ get_or old w 0) → KeepsOthers runs old new
+pub range_kept : (runs : List Run) (old new : List ℕ) (first n : ℕ) → ((page : ℕ) → first ≤ page → page < first + n → is_covered page runs ≡ true) → length new ≡ length old → ((w : ℕ) → (w < descriptor_word first) ⊎ (descriptor_word (first + n) ≤ w) → get_or new w 0 ≡ get_or old w 0) → KeepsOthers runs old new
 range_kept runs old new first n covered len others = record { same_length = len; others = λ w list is. others w (far w is) } where
-  far : (w : ℕ) → is_run_word runs w ≡ false → (w < 88 + 3 * first) ⊎ (88 + 3 * (first + n) ≤ w)
-  far w is = elim (cases_lt w (88 + 3 * first)) [
+  far : (w : ℕ) → is_run_word runs w ≡ false → (w < descriptor_word first) ⊎ (descriptor_word (first + n) ≤ w)
+  far w is = elim (cases_lt w (descriptor_word first)) [
     | inl l ↦ inl l
-    | inr g ↦ elim (cases_lt w (88 + 3 * (first + n))) [
+    | inr g ↦ elim (cases_lt w (descriptor_word (first + n))) [
       | inl inside ↦
-          let page = (w - 88) / 3 in
+          let page = descriptor_page w in
           let c = covered page (omega (arith, g)) (omega (arith, g, inside)) in
           elim (beyond_run runs page w c is) [ inl l ↦ absurd (omega (arith, l, g, descriptor-word page)) | inr after ↦ absurd (omega (arith, after, g, descriptor-word page)) ]
       | inr after ↦ inr after
     ]
   ]
 
-range_other : (old new : List ℕ) (first n page : ℕ) → ((w : ℕ) → (w < 88 + 3 * first) ⊎ (88 + 3 * (first + n) ≤ w) → get_or new w 0 ≡ get_or old w 0) → (page < first) ⊎ (first + n ≤ page) → SameWords old new (descriptor page)
+range_other : (old new : List ℕ) (first n page : ℕ) → ((w : ℕ) → (w < descriptor_word first) ⊎ (descriptor_word (first + n) ≤ w) → get_or new w 0 ≡ get_or old w 0) → (page < first) ⊎ (first + n ≤ page) → SameWords old new (descriptor page)
 range_other old new first n page others beyond = record {
   slab = others (descriptor page / 8) (elim beyond [ inl l ↦ inl (omega (arith, l, descriptor-word page)) | inr g ↦ inr (omega (arith, g, descriptor-word page)) ]);
   next = others (descriptor page / 8 + 1) (elim beyond [ inl l ↦ inl (omega (arith, l, descriptor-word page)) | inr g ↦ inr (omega (arith, g, descriptor-word page)) ]);
   prev = others (descriptor page / 8 + 2) (elim beyond [ inl l ↦ inl (omega (arith, l, descriptor-word page)) | inr g ↦ inr (omega (arith, g, descriptor-word page)) ]);
 }
 
-range_head : (old new : List ℕ) (first n : ℕ) → ((w : ℕ) → (w < 88 + 3 * first) ⊎ (88 + 3 * (first + n) ≤ w) → get_or new w 0 ≡ get_or old w 0) → SameWords old new free_head
-range_head old new first n others = record { slab = others 6 (inl (omega arith)); next = others 7 (inl (omega arith)); prev = others 8 (inl (omega arith)) }
+range_head : (old new : List ℕ) (first n : ℕ) → ((w : ℕ) → (w < descriptor_word first) ⊎ (descriptor_word (first + n) ≤ w) → get_or new w 0 ≡ get_or old w 0) → SameWords old new free_head
+range_head old new first n others = record { slab = others free_word (inl (omega arith)); next = others (free_word + 1) (inl (omega arith)); prev = others (free_word + 2) (inl (omega arith)) }
 
 -- the count of free pages is written
-pub counted_list : (count : ℕ) (old new : List ℕ) (runs : List Run) (v : ℕ) → LaysList count old runs → new ≡ set old pfree v → LaysList count new runs
-counted_list count old new runs v h is = LaysList-kept count old new runs (length-written old new pfree v is) (record {
-  slab = get-written old new pfree v 6 is (λ e. omega (arith, e));
-  next = get-written old new pfree v 7 is (λ e. omega (arith, e));
-  prev = get-written old new pfree v 8 is (λ e. omega (arith, e));
+pub counted_list : (count : ℕ) (old new : List ℕ) (runs : List Run) (v : ℕ) → LaysList count old runs → new ≡ set old pfree_word v → LaysList count new runs
+counted_list count old new runs v h is = LaysList-kept count old new runs (length-written old new pfree_word v is) (record {
+  slab = get-written old new pfree_word v free_word is (λ e. omega (arith, e));
+  next = get-written old new pfree_word v (free_word + 1) is (λ e. omega (arith, e));
+  prev = get-written old new pfree_word v (free_word + 2) is (λ e. omega (arith, e));
 }) (λ page c. record {
-  slab = get-written old new pfree v (descriptor page / 8) is (λ e. omega (arith, e, descriptor-word page));
-  next = get-written old new pfree v (descriptor page / 8 + 1) is (λ e. omega (arith, e, descriptor-word page));
-  prev = get-written old new pfree v (descriptor page / 8 + 2) is (λ e. omega (arith, e, descriptor-word page));
+  slab = get-written old new pfree_word v (descriptor page / 8) is (λ e. omega (arith, e, descriptor-word page));
+  next = get-written old new pfree_word v (descriptor page / 8 + 1) is (λ e. omega (arith, e, descriptor-word page));
+  prev = get-written old new pfree_word v (descriptor page / 8 + 2) is (λ e. omega (arith, e, descriptor-word page));
 }) h
 
-pub counted_kept : (old new : List ℕ) (runs : List Run) (v : ℕ) → new ≡ set old pfree v → KeepsOthers runs old new
-counted_kept old new runs v is = record { same_length = length-written old new pfree v is; others = λ w list run. get-written old new pfree v w is (other w list) } where
-  other : (w : ℕ) → is_list_word w ≡ false → w ≢ pfree
+pub counted_kept : (old new : List ℕ) (runs : List Run) (v : ℕ) → new ≡ set old pfree_word v → KeepsOthers runs old new
+counted_kept old new runs v is = record { same_length = length-written old new pfree_word v is; others = λ w list run. get-written old new pfree_word v w is (other w list) } where
+  other : (w : ℕ) → is_list_word w ≡ false → w ≢ pfree_word
   other w list e = grind (arith, common_steps)
 
-pub counted_other : (old new : List ℕ) (v page : ℕ) → new ≡ set old pfree v → SameWords old new (descriptor page)
+pub counted_other : (old new : List ℕ) (v page : ℕ) → new ≡ set old pfree_word v → SameWords old new (descriptor page)
 counted_other old new v page is = record {
-  slab = get-written old new pfree v (descriptor page / 8) is (λ e. omega (arith, e, descriptor-word page));
-  next = get-written old new pfree v (descriptor page / 8 + 1) is (λ e. omega (arith, e, descriptor-word page));
-  prev = get-written old new pfree v (descriptor page / 8 + 2) is (λ e. omega (arith, e, descriptor-word page));
+  slab = get-written old new pfree_word v (descriptor page / 8) is (λ e. omega (arith, e, descriptor-word page));
+  next = get-written old new pfree_word v (descriptor page / 8 + 1) is (λ e. omega (arith, e, descriptor-word page));
+  prev = get-written old new pfree_word v (descriptor page / 8 + 2) is (λ e. omega (arith, e, descriptor-word page));
 }
 
 -- ---- take
 
-pub taken : (count first n : ℕ) (runs : List Run) (old mid next new : List ℕ) (v : ℕ) → 0 < n → LaysList count old runs → first_fit n runs ≡ Some first → Relists count runs (take_run n runs) old mid → MarksUsed mid next first n → new ≡ set next pfree v → v + n ≡ get_or old pfree 0 → TakesRun count runs old new first n
+pub taken : (count first n : ℕ) (runs : List Run) (old mid next new : List ℕ) (v : ℕ) → 0 < n → LaysList count old runs → first_fit n runs ≡ Some first → Relists count runs (take_run n runs) old mid → MarksUsed mid next first n → new ≡ set next pfree_word v → v + n ≡ get_or old pfree_word 0 → TakesRun count runs old new first n
 taken count first n runs old mid next new v some h found re marks is counts =
     let covered = λ (page : ℕ) (low : first ≤ page) (high : page < first + n). first_fit-covered n runs first page found low high in
-    let room : pfree < length next = omega (arith, h.room, re.kept.same_length, marks.same_length) in
+    let room : pfree_word < length next = omega (arith, h.room, re.kept.same_length, marks.same_length) in
     record {
       laid = counted_list count next new (take_run n runs) v (LaysList-kept count mid next (take_run n runs) marks.same_length (range_head mid next first n marks.others) (λ page c. range_other mid next first n page marks.others (outside page c)) re.laid) is;
-      counted = omega (arith, get-read next new pfree v is room, counts);
+      counted = omega (arith, get-read next new pfree_word v is room, counts);
       used = record {
         first = HasWords-kept next new (descriptor first) (n + 2 ^ 63) 0 0 (counted_other next new v first is) marks.used.first;
         later = λ page low high. HasWords-kept next new (descriptor page) (2 ^ 64 - 1) 0 0 (counted_other next new v page is) (marks.used.later page low high);
@@ -274,17 +275,17 @@ merges count first n runs old one two three after before h used fills d1 is d2 =
         by_cover true c = absurd (elim (covered-without count runs (first + n) page h.sound c) [ inl l ↦ omega (arith, l, low) | inr g ↦ omega (arith, g, high) ])
         by_cover false c = c
 
-pub given : (count first n : ℕ) (runs : List Run) (old one two three four new : List ℕ) (after before v : ℕ) → LaysList count old runs → CanComeBack count old runs (record { first = first; pages = n }) → FillsRun old one first n 0 → Detaches count runs one two (first + n) after → Detaches count (without_run (first + n) runs) two three (first - before) before → Merges count first n runs three before after → Relists count (record { first = first - before; pages = before + n + after } ∷ without_run (first - before) (without_run (first + n) runs)) (record { first = first - before; pages = before + n + after } ∷ without_run (first - before) (without_run (first + n) runs)) three four → new ≡ set four pfree v → v ≡ get_or old pfree 0 + n → GivesRun count runs old new (record { first = first; pages = n })
+pub given : (count first n : ℕ) (runs : List Run) (old one two three four new : List ℕ) (after before v : ℕ) → LaysList count old runs → CanComeBack count old runs (record { first = first; pages = n }) → FillsRun old one first n 0 → Detaches count runs one two (first + n) after → Detaches count (without_run (first + n) runs) two three (first - before) before → Merges count first n runs three before after → Relists count (record { first = first - before; pages = before + n + after } ∷ without_run (first - before) (without_run (first + n) runs)) (record { first = first - before; pages = before + n + after } ∷ without_run (first - before) (without_run (first + n) runs)) three four → new ≡ set four pfree_word v → v ≡ get_or old pfree_word 0 + n → GivesRun count runs old new (record { first = first; pages = n })
 given count first n runs old one two three four new after before v h used fills d1 d2 m adds is counts =
     let run : Run = record { first = first; pages = n } in
     let after_list = give_run run runs in
     let re : Relists count after_list after_list three four = subst (λ (rs : List Run). Relists count rs rs three four) m.list adds in
     let more = λ (page : ℕ) (c : is_covered page runs ≡ true). is_covered-give count page run runs h.sound ∙ either_left _ _ c in
     let own = λ (page : ℕ) (low : first ≤ page) (high : page < first + n). is_covered-give count page run runs h.sound ∙ either_right _ _ (is_within-in page first n low high) in
-    let room : pfree < length four = omega (arith, re.laid.room) in
+    let room : pfree_word < length four = omega (arith, re.laid.room) in
     record {
       laid = counted_list count four new after_list v re.laid is;
-      counted = get-read four new pfree v is room ∙ counts;
+      counted = get-read four new pfree_word v is room ∙ counts;
       kept = kept_then after_list old four new (kept_then after_list old three four (kept_then after_list old two three (kept_then after_list old one two
           (range_kept after_list old one first n own fills.same_length fills.others)
           (kept_within runs after_list one two more d1.kept))

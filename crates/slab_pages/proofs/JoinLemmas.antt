@@ -4,7 +4,7 @@ use Rattle.std.specs.Prelude.{filter}
 use Rattle.std.proofs.lemmas.Grind.{common_steps}
 use Rattle.std.proofs.lemmas.Bool.{cases_eq, cases_lt}
 use Rattle.slab_model.specs.declared.runs.Run.{Run}
-use Rattle.slab_model.specs.Runs.{IsApart, AreSound, is_covered, pages_from, pages_before, is_beside}
+use Rattle.slab_model.specs.Runs.{IsRunApart, AreSound, is_covered, pages_from, pages_before, is_beside}
 use Rattle.slab_pages.specs.Steps.{without_run}
 use Rattle.slab_pages.proofs.ListLemmas.{pages_from-there, pages_from-covers, pages_from-apart, covered-first}
 use Rattle.slab_pages.proofs.UnlinkLemmas.{AreSound-without}
@@ -72,11 +72,11 @@ filter-without count run (x ∷ xs) sound some free =
       uncovered-rest : (x : Run) (xs : List Run) (page : ℕ) → is_covered page (x ∷ xs) ≡ false → is_covered page xs ≡ false
       uncovered-rest x xs page h = grind (arith, common_steps)
 
-      before-apart : (x : Run) (xs : List Run) → IsApart x xs → pages_before (x.first + x.pages) xs ≡ 0
+      before-apart : (x : Run) (xs : List Run) → IsRunApart x xs → pages_before (x.first + x.pages) xs ≡ 0
       before-apart x [] apart = refl
       before-apart x (y ∷ ys) apart = let ih = before-apart x ys apart.1 in grind (arith, common_steps, ih)
 
-      from-apart : (x : Run) (xs : List Run) → IsApart x xs → 0 < x.pages → pages_from x.first xs ≡ 0
+      from-apart : (x : Run) (xs : List Run) → IsRunApart x xs → 0 < x.pages → pages_from x.first xs ≡ 0
       from-apart x xs apart some = pages_from-apart x xs x.first apart (omega arith) (omega (arith, some))
 
       pages_from-without : (count : ℕ) (xs : List Run) (first other : ℕ) → AreSound count xs → pages_from first xs ≡ 0 → pages_from first (without_run other xs) ≡ 0

@@ -11,3 +11,7 @@ pub mod WalkLemmas
 pub mod PagesLemmas
 pub mod OpeningLemmas
 pub mod ComeBackLemmas
+pub mod SetLemmas
+pub mod FrameLemmas
+pub mod TakeLemmas
+pub mod UniqueLemmas

@@ -3,11 +3,12 @@ use Rattle.std.proofs.Common.{ℕ, ◌≡◌, ◌≢◌, ◌⊎◌, ◌+◌, ◌
 use Rattle.std.proofs.lemmas.Grind.{common_steps}
 use Rattle.std.proofs.lemmas.Bool.{cases_eq, cases_lt}
 use Rattle.slab_model.specs.declared.runs.Run.{Run}
-use Rattle.slab_model.specs.Runs.{AreApart, IsApart, AreSound, is_covered, pages_from}
+use Rattle.slab_model.specs.Runs.{AreRunsApart, IsRunApart, AreSound, is_covered, pages_from}
 use Rattle.slab_pages.specs.Places.{free_head, descriptor, slab_at, next_at, prev_at, IsPlace}
 use Rattle.slab_pages.specs.Layout.{HasTail, LaysFrom}
 use Rattle.slab_pages.proofs.PlaceLemmas.{descriptor-head, descriptor-injective, HasWords-kept}
-use Rattle.slab_pages.specs.Steps.{SameWords, change}
+use Rattle.slab_pages.specs.Frames.{SameWords}
+use Rattle.slab_pages.specs.Steps.{change}
 
 -- ---- pages and runs
 
@@ -23,12 +24,12 @@ pages_from-covers first page [] low high = absurd (omega arith)
 pages_from-covers first page (x ∷ xs) low high = let ih = pages_from-covers first page xs low in grind (arith, common_steps, ih)
 
 -- no listed run begins in a run that is apart from them
-pub pages_from-apart : (x : Run) (xs : List Run) (page : ℕ) → IsApart x xs → x.first ≤ page → page < x.first + x.pages → pages_from page xs ≡ 0
+pub pages_from-apart : (x : Run) (xs : List Run) (page : ℕ) → IsRunApart x xs → x.first ≤ page → page < x.first + x.pages → pages_from page xs ≡ 0
 pages_from-apart x [] page apart low high = refl
 pages_from-apart x (y ∷ ys) page apart low high = let ih = pages_from-apart x ys page apart.1 low high in grind (arith, common_steps, ih)
 
 -- a run that is apart from the listed ones is apart from the one that begins at `first`
-pub pages_from-beyond : (x : Run) (xs : List Run) (first page : ℕ) → IsApart x xs → 0 < pages_from first xs → x.first ≤ page → page < x.first + x.pages → (page < first) ⊎ (first + pages_from first xs ≤ page)
+pub pages_from-beyond : (x : Run) (xs : List Run) (first page : ℕ) → IsRunApart x xs → 0 < pages_from first xs → x.first ≤ page → page < x.first + x.pages → (page < first) ⊎ (first + pages_from first xs ≤ page)
 pages_from-beyond x [] first page apart some low high = absurd (omega arith)
 pages_from-beyond x (y ∷ ys) first page apart some low high = let ih = pages_from-beyond x ys first page apart.1 in grind (arith, common_steps, ih)
 
@@ -117,16 +118,16 @@ next_in count words p (x ∷ y ∷ ys) first sound h some = elim (cases_eq x.fir
     | inr m ↦ inr (m.0, m.1, pages_from-later count x (y ∷ ys) m.0 sound m.2, m.3)
   ]
 ] where
-  different : (first : ℕ) (x y : Run) → x.first ≡ first → 0 < x.pages → AreApart x y → y.first ≢ first
+  different : (first : ℕ) (x y : Run) → x.first ≡ first → 0 < x.pages → AreRunsApart x y → y.first ≢ first
   different first x y e some apart same = elim apart [ inl l ↦ omega (arith, l, e, same) | inr g ↦ omega (arith, g, e, same, some) ]
 
 -- a page of a run that is apart from a listed one isn't in it
-pub covers-apart : (x : Run) (xs : List Run) (page : ℕ) → IsApart x xs → is_covered page xs ≡ true → (page < x.first) ⊎ (x.first + x.pages ≤ page)
+pub covers-apart : (x : Run) (xs : List Run) (page : ℕ) → IsRunApart x xs → is_covered page xs ≡ true → (page < x.first) ⊎ (x.first + x.pages ≤ page)
 covers-apart x [] page apart h = absurd (cc)
 covers-apart x (y ∷ ys) page apart h = let ih = covers-apart x ys page apart.1 in grind (arith, common_steps, ih)
 
 -- the runs that followed `first` follow `a` instead
-pub relink : (count : ℕ) (old new : List ℕ) (a : ℕ) (before : ℕ) (x : Run) (xs : List Run) → IsApart x xs → AreSound count xs → Outside before xs → Near old new x.first x.pages before (next_at old (descriptor x.first)) → next_at new a ≡ next_at old (descriptor x.first) → (next_at old (descriptor x.first) ≢ free_head → prev_at new (next_at old (descriptor x.first)) ≡ a) → LaysFrom old (descriptor x.first) xs → LaysFrom new a xs
+pub relink : (count : ℕ) (old new : List ℕ) (a : ℕ) (before : ℕ) (x : Run) (xs : List Run) → IsRunApart x xs → AreSound count xs → Outside before xs → Near old new x.first x.pages before (next_at old (descriptor x.first)) → next_at new a ≡ next_at old (descriptor x.first) → (next_at old (descriptor x.first) ≢ free_head → prev_at new (next_at old (descriptor x.first)) ≡ a) → LaysFrom old (descriptor x.first) xs → LaysFrom new a xs
 relink count old new a before x [] apart sound out near next prev h = next ∙ h
 relink count old new a before x (y ∷ ys) apart sound out near next prev h =
     let beyond = λ (page : ℕ) (c : is_covered page (y ∷ ys) ≡ true). covers-apart x (y ∷ ys) page apart c in
@@ -142,7 +143,7 @@ relink count old new a before x (y ∷ ys) apart sound out near next prev h =
       HasTail-kept old new y (λ page low high. same page (covered-first y ys page (omega arith) high) (omega (arith, low))) h.3,
       LaysFrom-kept count old new (descriptor y.first) ys sound.3 after (λ page c. same page (covered-rest y ys page c) (covers-first y ys page sound.2 sound.0 c)) h.4,
     ) where
-      covers-first : (y : Run) (ys : List Run) (page : ℕ) → IsApart y ys → 0 < y.pages → is_covered page ys ≡ true → page ≢ y.first
+      covers-first : (y : Run) (ys : List Run) (page : ℕ) → IsRunApart y ys → 0 < y.pages → is_covered page ys ≡ true → page ≢ y.first
       covers-first y ys page apart some c e = elim (covers-apart y ys page apart c) [ inl l ↦ omega (arith, l, e) | inr g ↦ omega (arith, g, e, some) ]
 
 -- a change at one run leaves the rest of the list

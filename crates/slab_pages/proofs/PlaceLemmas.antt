@@ -1,10 +1,11 @@
 -- The words of descriptors at different places are different.
-use Rattle.std.proofs.Common.{ℕ, ◌≡◌, ◌≢◌, ◌⊎◌, ◌+◌, ◌*◌, ◌/◌, ◌≤◌, List, sym, ap, subst, ◌∙◌, refl, arith, inl, inr}
+use Rattle.std.proofs.Common.{ℕ, ◌≡◌, ◌≢◌, ◌⊎◌, ◌+◌, ◌/◌, ◌≤◌, List, sym, ap, subst, ◌∙◌, refl, arith, inl, inr}
 use Rattle.std.proofs.lemmas.Bool.{cases_lt, cases_eq}
-use Rattle.slab_pages.specs.Steps.{SameWords, SetsWords}
-use Rattle.slab_pages.specs.Places.{free_head, descriptor, slab_at, next_at, prev_at, HasWords, IsPlace, Links}
+use Rattle.slab_pages.specs.Frames.{SameWords}
+use Rattle.slab_pages.specs.Steps.{SetsWords}
+use Rattle.slab_pages.specs.Places.{free_head, descriptor, slab_at, next_at, prev_at, HasWords, IsPlace, Links, descriptor_word}
 
-pub descriptor-word : (page : ℕ) → descriptor page / 8 ≡ 88 + 3 * page
+pub descriptor-word : (page : ℕ) → descriptor page / 8 ≡ descriptor_word page
 unfolding descriptor
 descriptor-word page = omega arith
 

@@ -1,18 +1,19 @@
 -- A run leaves the list of free runs.
-use Rattle.std.proofs.Common.{ℕ, ◌≡◌, ◌≢◌, ◌⊎◌, ◌+◌, ◌*◌, ◌-◌, ◌/◌, ◌<◌, ◌≤◌, true, false, List, [], ◌∷◌, length, get_or, sym, ap, subst, ◌∙◌, refl, arith, inl, inr}
+use Rattle.std.proofs.Common.{ℕ, ◌≡◌, ◌≢◌, ◌⊎◌, ◌+◌, ◌-◌, ◌/◌, ◌<◌, ◌≤◌, true, false, List, [], ◌∷◌, length, get_or, sym, ap, subst, ◌∙◌, refl, arith, inl, inr}
 use Rattle.std.proofs.lemmas.Grind.{common_steps}
 use Rattle.std.proofs.lemmas.Bool.{cases_eq, cases_lt}
 use Rattle.slab_model.specs.declared.runs.Run.{Run}
-use Rattle.slab_model.specs.Runs.{IsApart, AreSound, is_covered, pages_from}
-use Rattle.slab_pages.specs.Places.{free_head, pfree, descriptor, slab_at, next_at, prev_at, HasWords, IsPlace, Links, KeepsOthers, is_list_word, is_run_word}
+use Rattle.slab_model.specs.Runs.{IsRunApart, AreSound, is_covered, pages_from}
+use Rattle.slab_pages.specs.Places.{free_head, pfree_word, descriptor, slab_at, next_at, prev_at, HasWords, IsPlace, Links, KeepsOthers, is_list_word, is_run_word, descriptor_word, descriptor_page, free_word}
 use Rattle.slab_pages.specs.Layout.{HasTail, LaysFrom}
-use Rattle.slab_pages.specs.Steps.{SameWords, SetsWords, LaysList, Unlinks, Detaches, without_run}
+use Rattle.slab_pages.specs.Frames.{SameWords}
+use Rattle.slab_pages.specs.Steps.{SetsWords, LaysList, Unlinks, Detaches, without_run}
 use Rattle.slab_pages.proofs.PlaceLemmas.{descriptor-word, descriptor-head, descriptor-injective, descriptor-other, HasWords-kept, SameWords-then, SetsWords-other, Links-slab, Links-next, Links-prev, Links-prev_head}
 use Rattle.slab_pages.proofs.ListLemmas.{pages_from-here, pages_from-there, pages_from-covers, pages_from-beyond, pages_from-inside, LaysFrom-kept, covered-rest, covers-apart, Near, prev_in, next_in, relink, relaid}
 
 -- ---- the list without a run
 
-pub IsApart-without : (y : Run) (runs : List Run) (first : ℕ) → IsApart y runs → IsApart y (without_run first runs)
+pub IsApart-without : (y : Run) (runs : List Run) (first : ℕ) → IsRunApart y runs → IsRunApart y (without_run first runs)
 IsApart-without y [] first apart = tt
 IsApart-without y (x ∷ xs) first apart = let ih = IsApart-without y xs first apart.1 in grind (arith, common_steps, ih)
 
@@ -52,8 +53,8 @@ beyond_run runs page w c h = elim (cases_lt w (descriptor page / 8)) [
     | inr after ↦ inr after
   ]
 ] where
-  in_run : (runs : List Run) (page w : ℕ) → is_covered page runs ≡ true → is_run_word runs w ≡ false → 88 + 3 * page ≤ w → w < 88 + 3 * page + 3 → ⊥
-  in_run runs page w c h low high = let at : (w - 88) / 3 ≡ page = omega arith in let covered : is_covered ((w - 88) / 3) runs ≡ true = ap (λ k. is_covered k runs) at ∙ c in grind (arith, common_steps)
+  in_run : (runs : List Run) (page w : ℕ) → is_covered page runs ≡ true → is_run_word runs w ≡ false → descriptor_word page ≤ w → w < descriptor_word page + 3 → ⊥
+  in_run runs page w c h low high = let at : descriptor_page w ≡ page = omega arith in let covered : is_covered (descriptor_page w) runs ≡ true = ap (λ k. is_covered k runs) at ∙ c in grind (arith, common_steps)
 
 -- the head, or the first page of one of the runs
 abbrev pub IsNode : ℕ → List Run → Type 0
@@ -68,7 +69,7 @@ node_next o runs w node list run e = elim node [
   | inl at ↦ head w list (e ∙ ap (λ x. x / 8 + 1) at)
   | inr m ↦ let there = e ∙ ap (λ x. x / 8 + 1) m.1 in elim (beyond_run runs m.0 w m.2 run) [ inl l ↦ omega (arith, l, there) | inr g ↦ omega (arith, g, there) ]
 ] where
-  head : (w : ℕ) → is_list_word w ≡ false → w ≡ 7 → ⊥
+  head : (w : ℕ) → is_list_word w ≡ false → w ≡ free_word + 1 → ⊥
   head w list e = grind (arith, common_steps)
 
 pub node_prev : (o : ℕ) (runs : List Run) (w : ℕ) → IsNode o runs → is_list_word w ≡ false → is_run_word runs w ≡ false → w ≢ o / 8 + 2
@@ -76,13 +77,13 @@ node_prev o runs w node list run e = elim node [
   | inl at ↦ head w list (e ∙ ap (λ x. x / 8 + 2) at)
   | inr m ↦ let there = e ∙ ap (λ x. x / 8 + 2) m.1 in elim (beyond_run runs m.0 w m.2 run) [ inl l ↦ omega (arith, l, there) | inr g ↦ omega (arith, g, there) ]
 ] where
-  head : (w : ℕ) → is_list_word w ≡ false → w ≡ 8 → ⊥
+  head : (w : ℕ) → is_list_word w ≡ false → w ≡ free_word + 2 → ⊥
   head w list e = grind (arith, common_steps)
 
 -- the count of free pages is no link
-pub links_free : (old new : List ℕ) (a b : ℕ) → IsPlace a → IsPlace b → Links old new a b → get_or new pfree 0 ≡ get_or old pfree 0
-links_free old new a b pa pb h = h.others pfree (λ e. away 1 a pa (omega arith) (omega arith) e) (λ e. away 2 b pb (omega arith) (omega arith) e) where
-  away : (j o : ℕ) → IsPlace o → 1 ≤ j → j ≤ 2 → pfree ≡ o / 8 + j → ⊥
+pub links_free : (old new : List ℕ) (a b : ℕ) → IsPlace a → IsPlace b → Links old new a b → get_or new pfree_word 0 ≡ get_or old pfree_word 0
+links_free old new a b pa pb h = h.others pfree_word (λ e. away 1 a pa (omega arith) (omega arith) e) (λ e. away 2 b pb (omega arith) (omega arith) e) where
+  away : (j o : ℕ) → IsPlace o → 1 ≤ j → j ≤ 2 → pfree_word ≡ o / 8 + j → ⊥
   away j o place low high e = elim place [
     | inl at ↦ let w = ap (λ x. x / 8) at in omega (arith, e, w, low, high)
     | inr m ↦ let w = ap (λ x. x / 8) m.1 ∙ descriptor-word m.0 in omega (arith, e, w)
@@ -176,8 +177,8 @@ sets_kept old new runs page slab next prev c h = record { same_length = h.same_l
 pub kept_then : (runs : List Run) (old mid new : List ℕ) → KeepsOthers runs old mid → KeepsOthers runs mid new → KeepsOthers runs old new
 kept_then runs old mid new first second = record { same_length = second.same_length ∙ first.same_length; others = λ w list run. second.others w list run ∙ first.others w list run }
 
-pub sets_free : (old new : List ℕ) (page slab next prev : ℕ) → SetsWords old new (descriptor page) slab next prev → get_or new pfree 0 ≡ get_or old pfree 0
-sets_free old new page slab next prev h = h.others pfree (inl (omega (arith, descriptor-word page)))
+pub sets_free : (old new : List ℕ) (page slab next prev : ℕ) → SetsWords old new (descriptor page) slab next prev → get_or new pfree_word 0 ≡ get_or old pfree_word 0
+sets_free old new page slab next prev h = h.others pfree_word (inl (omega (arith, descriptor-word page)))
 
 pub sets_head : (old new : List ℕ) (page slab next prev : ℕ) → SetsWords old new (descriptor page) slab next prev → SameWords old new free_head
 sets_head old new page slab next prev h = SetsWords-other old new (descriptor page) slab next prev free_head (inr (page, refl)) (inl refl) (λ e. descriptor-head page (sym e)) h

@@ -1,11 +1,14 @@
 -- The walk along the list of free runs.
-use Rattle.std.proofs.Common.{ℕ, ◌≡◌, ◌≢◌, ◌+◌, ◌<◌, ◌≤◌, true, false, List, [], ◌∷◌, length, sym, subst, ◌∙◌, refl, arith, Some, None}
+use Rattle.std.proofs.Common.{ℕ, ◌≡◌, ◌≢◌, ◌+◌, ◌<◌, ◌≤◌, Bool, true, false, ◌||◌, List, [], ◌∷◌, length, sym, subst, ◌∙◌, refl, arith, Some, None, ◌⊎◌, inl, inr}
 use Rattle.std.proofs.lemmas.Grind.{common_steps}
+use Rattle.std.proofs.lemmas.Bool.{cases_Bool}
 use Rattle.slab_model.specs.declared.runs.Run.{Run}
 use Rattle.slab_model.specs.Runs.{AreSound, first_fit, is_covered, is_within}
 use Rattle.slab_pages.specs.Places.{free_head, descriptor, slab_at, next_at}
 use Rattle.slab_pages.specs.Layout.{LaysFrom}
-use Rattle.slab_pages.specs.Steps.{LaysList}
+use Rattle.slab_pages.specs.Steps.{LaysList, IsClearOfFree}
+use Rattle.slab_model.proofs.RunLemmas.{is_within-parts}
+use Rattle.slab_pages.proofs.ListLemmas.{covered-first}
 use Rattle.slab_pages.proofs.PlaceLemmas.{descriptor-head}
 use Rattle.slab_pages.proofs.GiveLemmas.{page_total-le, length-runs}
 
@@ -65,49 +68,72 @@ walk_meets count n step words o runs w ne = met w.rest w.stands w.sound w.fit w.
 pub walk_short : (count n step : ℕ) (words : List ℕ) (o : ℕ) (runs : List Run) → LaysList count words runs → Walks count n step words o runs → step < length words
 walk_short count n step words o runs h w = omega (arith, w.counted, length-runs count runs h.sound, page_total-le count runs h.sound, h.room)
 
--- ---- the walk that looks for a page
+-- ---- the walk that looks for pages
 
--- after some steps these runs are left, and none before them has the page
-pub record Looks (count page step : ℕ) (words : List ℕ) (o : ℕ) (runs : List Run) : Type 0 where
+-- after some steps these runs are left, and none before them has one of the `n` pages from `first` on
+pub record Passes (count first n step : ℕ) (words : List ℕ) (o : ℕ) (runs : List Run) : Type 0 where
   pub rest : List Run
   pub stands : StandsAt words o rest
   pub sound : AreSound count rest
-  pub same : is_covered page rest ≡ is_covered page runs
+  pub same : (page : ℕ) → first ≤ page → page < first + n → is_covered page rest ≡ is_covered page runs
   pub counted : step + length rest ≡ length runs
 
-pub look_begins : (count page : ℕ) (words : List ℕ) (runs : List Run) → LaysList count words runs → Looks count page 0 words (next_at words free_head) runs
-look_begins count page words runs h = record { rest = runs; stands = stands_next words free_head runs h.linked; sound = h.sound; same = refl; counted = omega arith }
+pub pass_begins : (count first n : ℕ) (words : List ℕ) (runs : List Run) → LaysList count words runs → Passes count first n 0 words (next_at words free_head) runs
+pass_begins count first n words runs h = record { rest = runs; stands = stands_next words free_head runs h.linked; sound = h.sound; same = λ page low high. refl; counted = omega arith }
 
-pub look_ends : (count page step : ℕ) (words : List ℕ) (o : ℕ) (runs : List Run) → Looks count page step words o runs → o ≡ free_head → is_covered page runs ≡ false
-look_ends count page step words o runs w e = ended w.rest w.stands w.same where
-  ended : (rest : List Run) → StandsAt words o rest → is_covered page rest ≡ is_covered page runs → is_covered page runs ≡ false
-  ended [] stands same = sym same
+-- at the head no run is left
+pub pass_ends : (count first n step : ℕ) (words : List ℕ) (o : ℕ) (runs : List Run) → Passes count first n step words o runs → o ≡ free_head → IsClearOfFree runs first (first + n)
+pass_ends count first n step words o runs w e = ended w.rest w.stands w.same where
+  ended : (rest : List Run) → StandsAt words o rest → ((page : ℕ) → first ≤ page → page < first + n → is_covered page rest ≡ is_covered page runs) → IsClearOfFree runs first (first + n)
+  ended [] stands same = λ page low high. sym (same page low high)
   ended (x ∷ xs) stands same = absurd (descriptor-head x.first (sym stands.0 ∙ e))
 
--- elsewhere a run begins
-pub record Finds (count page step : ℕ) (words : List ℕ) (o : ℕ) (runs : List Run) : Type 0 where
-  pub first : ℕ
-  pub at : o ≡ descriptor first
-  pub low : first < count
-  pub inside : is_within page first (slab_at words o) ≡ true → is_covered page runs ≡ true
-  pub outside : is_within page first (slab_at words o) ≡ false → Looks count page (step + 1) words (next_at words o) runs
+-- the stretch of pages and the run have a page in common
+abbrev pub meet : ℕ → ℕ → ℕ → ℕ → Bool
+meet first n begin pages = is_within first begin pages || is_within begin first n
 
-pub look_finds : (count page step : ℕ) (words : List ℕ) (o : ℕ) (runs : List Run) → Looks count page step words o runs → o ≢ free_head → Finds count page step words o runs
-look_finds count page step words o runs w ne = met w.rest w.stands w.sound w.same w.counted where
-  met : (rest : List Run) → StandsAt words o rest → AreSound count rest → is_covered page rest ≡ is_covered page runs → step + length rest ≡ length runs → Finds count page step words o runs
+-- elsewhere a run begins
+pub record Stops (count first n step : ℕ) (words : List ℕ) (o : ℕ) (runs : List Run) : Type 0 where
+  pub begin : ℕ
+  pub at : o ≡ descriptor begin
+  pub low : begin < count
+  pub inside : meet first n begin (slab_at words o) ≡ true → IsClearOfFree runs first (first + n) → ⊥
+  pub outside : meet first n begin (slab_at words o) ≡ false → Passes count first n (step + 1) words (next_at words o) runs
+
+pub pass_stops : (count first n step : ℕ) (words : List ℕ) (o : ℕ) (runs : List Run) → 0 < n → Passes count first n step words o runs → o ≢ free_head → Stops count first n step words o runs
+pass_stops count first n step words o runs some w ne = met w.rest w.stands w.sound w.same w.counted where
+  met : (rest : List Run) → StandsAt words o rest → AreSound count rest → ((page : ℕ) → first ≤ page → page < first + n → is_covered page rest ≡ is_covered page runs) → step + length rest ≡ length runs → Stops count first n step words o runs
   met [] stands sound same counted = absurd (ne stands)
   met (x ∷ xs) stands sound same counted = record {
-    first = x.first;
+    begin = x.first;
     at = stands.0;
     low = omega (arith, sound.0, sound.1);
-    inside = λ h. sym same ∙ here x xs (subst (λ (n : ℕ). is_within page x.first n ≡ true) stands.1 h);
-    outside = λ h. record { rest = xs; stands = stands.2; sound = sound.3; same = sym (there x xs (subst (λ (n : ℕ). is_within page x.first n ≡ false) stands.1 h)) ∙ same; counted = omega (arith, counted) };
+    inside = λ h clear. elim (here x xs sound.0 (subst (λ (k : ℕ). meet first n x.first k ≡ true) stands.1 h)) [
+      | inl a ↦ differ (sym a ∙ same first (omega arith) (omega (arith, some)) ∙ clear first (omega arith) (omega (arith, some)))
+      | inr b ↦ differ (sym b.2 ∙ same x.first b.0 b.1 ∙ clear x.first b.0 b.1)
+    ];
+    outside = λ h. record {
+      rest = xs;
+      stands = stands.2;
+      sound = sound.3;
+      same = λ page low high. sym (there x xs page low high (subst (λ (k : ℕ). meet first n x.first k ≡ false) stands.1 h)) ∙ same page low high;
+      counted = omega (arith, counted);
+    };
   } where
-    here : (x : Run) (xs : List Run) → is_within page x.first x.pages ≡ true → is_covered page (x ∷ xs) ≡ true
-    here x xs h = grind (arith, common_steps)
+    differ : true ≡ false → ⊥
+    differ e = cc
 
-    there : (x : Run) (xs : List Run) → is_within page x.first x.pages ≡ false → is_covered page (x ∷ xs) ≡ is_covered page xs
-    there x xs h = grind (arith, common_steps)
+    here : (x : Run) (xs : List Run) → 0 < x.pages → meet first n x.first x.pages ≡ true → (is_covered first (x ∷ xs) ≡ true) ⊎ ((first ≤ x.first) × (x.first < first + n) × (is_covered x.first (x ∷ xs) ≡ true))
+    here x xs many h = elim (cases_Bool (is_within first x.first x.pages)) [
+      | inl a ↦ inl (grind (arith, common_steps))
+      | inr b ↦
+          let c : is_within x.first first n ≡ true = grind (arith, common_steps) in
+          let d = is_within-parts x.first first n c in
+          inr (d.0, d.1, covered-first x xs x.first (omega arith) (omega (arith, many)))
+    ]
 
-pub look_short : (count page step : ℕ) (words : List ℕ) (o : ℕ) (runs : List Run) → LaysList count words runs → Looks count page step words o runs → step < length words
-look_short count page step words o runs h w = omega (arith, w.counted, length-runs count runs h.sound, page_total-le count runs h.sound, h.room)
+    there : (x : Run) (xs : List Run) (page : ℕ) → first ≤ page → page < first + n → meet first n x.first x.pages ≡ false → is_covered page (x ∷ xs) ≡ is_covered page xs
+    there x xs page low high h = grind (arith, common_steps)
+
+pub pass_short : (count first n step : ℕ) (words : List ℕ) (o : ℕ) (runs : List Run) → LaysList count words runs → Passes count first n step words o runs → step < length words
+pass_short count first n step words o runs h w = omega (arith, w.counted, length-runs count runs h.sound, page_total-le count runs h.sound, h.room)

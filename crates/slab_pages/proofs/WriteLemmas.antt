@@ -1,9 +1,9 @@
 -- What single writes to descriptors come to.
-use Rattle.std.proofs.Common.{ℕ, ◌≡◌, ◌≢◌, ◌+◌, ◌*◌, ◌-◌, ◌/◌, ◌<◌, ◌≤◌, List, length, get_or, set, sym, ap, subst, ◌∙◌, refl, arith, inl, inr, get_or-set_same, get_or-set_other}
+use Rattle.std.proofs.Common.{ℕ, ◌≡◌, ◌≢◌, ◌+◌, ◌-◌, ◌/◌, ◌<◌, ◌≤◌, List, length, get_or, set, sym, ap, subst, ◌∙◌, refl, arith, inl, inr, get_or-set_same, get_or-set_other}
 use Rattle.std.proofs.lemmas.List.{length-set}
 use Rattle.std.proofs.lemmas.Bool.{cases_eq}
 use Rattle.slab_model.specs.declared.runs.Run.{Run}
-use Rattle.slab_pages.specs.Places.{free_head, descriptor, HasWords, IsPlace, Links}
+use Rattle.slab_pages.specs.Places.{free_head, descriptor, HasWords, IsPlace, Links, descriptor_word}
 use Rattle.slab_pages.specs.Steps.{SetsWords, FillsRun, BeginsRun}
 use Rattle.slab_pages.proofs.PlaceLemmas.{descriptor-word, descriptor-other, places_apart, HasWords-kept, SetsWords-other}
 
@@ -63,7 +63,7 @@ fills_more old mid new first count slab page at filled sets = record {
   other p page ne e = descriptor-other p page ne e
 
 -- a run's first and last descriptor
-pub begun : (old mid new : List ℕ) (run : Run) → 0 < run.pages → 88 + 3 * (run.first + run.pages) ≤ length old → mid ≡ set old (descriptor (run.first + run.pages - 1) / 8 + 2) (descriptor run.first) → new ≡ set mid (descriptor run.first / 8) run.pages → BeginsRun old new run
+pub begun : (old mid new : List ℕ) (run : Run) → 0 < run.pages → descriptor_word (run.first + run.pages) ≤ length old → mid ≡ set old (descriptor (run.first + run.pages - 1) / 8 + 2) (descriptor run.first) → new ≡ set mid (descriptor run.first / 8) run.pages → BeginsRun old new run
 begun old mid new run some room is is2 =
     let first = descriptor-word run.first in
     let last = descriptor-word (run.first + run.pages - 1) in

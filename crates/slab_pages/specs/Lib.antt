@@ -1,8 +1,11 @@
 pub use Rattle.slab_model.specs.Geometry
 pub use Rattle.slab_model.specs.Runs
-pub use Rattle.slab_model.specs.Slab
+pub use Rattle.slab_model.specs.State
+pub use Rattle.slab_model.specs.Soundness
+pub mod Shapes
 pub mod Places
 pub mod Layout
+pub mod Frames
 pub mod Steps
 pub mod SlabLayout
 pub mod Opening

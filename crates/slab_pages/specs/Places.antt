@@ -1,25 +1,131 @@
--- Where the words of a zone stand, by the names of `ngx_slab_pool_t` and `ngx_slab_page_t`.
+-- Where the words of a zone stand, by the names of `ngx_slab_pool_t`, `ngx_slab_stat_t` and `ngx_slab_page_t`. A place is the number of a word; links hold byte offsets.
 use Rattle.std.specs.Prelude.{ℕ, ◌≡◌, ◌≢◌, ◌⊎◌, length, ◌+◌, ◌*◌, ◌-◌, ◌/◌, Bool, false, ◌&&◌, ◌||◌, nat_le, nat_eq, List, slice_index}
 use Rattle.slab_model.specs.declared.runs.Run.{Run}
-use Rattle.slab_model.specs.Geometry.{prefix_size, descriptor_size}
+use Rattle.slab_model.specs.declared.shape.Shape.{Shape}
+use Rattle.slab_model.specs.Geometry.{blocks_in_page, greatest_zone, page_offset}
 use Rattle.slab_model.specs.Runs.{is_covered}
 
--- a zone: its bytes, and its words
+-- a zone: its shape, and its words
 pub record Image : Type 0 where
-  pub bytes : ℕ
+  pub shape : Shape
   pub words : List ℕ
 
--- byte offset of the head of the list of free runs, which is laid out like a descriptor
-abbrev pub free_head : ℕ
-free_head = 48
+-- the byte offset of a word
+abbrev pub byte_of : ℕ → ℕ
+byte_of w = 8 * w
 
--- the word that counts the free pages
-abbrev pub pfree : ℕ
-pfree = 10
+-- no zone has more pages, of which the smallest have 4096 bytes
+abbrev pub page_limit : ℕ
+page_limit = greatest_zone / 4096
+
+-- no zone has more words
+abbrev pub word_limit : ℕ
+word_limit = greatest_zone / 8
+
+-- ---- the header, the 25 words of `ngx_slab_pool_t`
+
+-- the lock, and the number of those that wait for it
+abbrev pub lock_word : ℕ
+lock_word = 0
+
+abbrev pub wait_word : ℕ
+wait_word = 1
+
+-- the least size of a block, and its binary logarithm
+abbrev pub min_size_word : ℕ
+min_size_word = 2
+
+abbrev pub min_shift_word : ℕ
+min_shift_word = 3
+
+-- the byte offsets of the first descriptor and of the end of the last one
+abbrev pub pages_word : ℕ
+pages_word = 4
+
+abbrev pub last_word : ℕ
+last_word = 5
+
+-- the head of the list of free runs, which is laid out like a descriptor: slab, next and prev
+abbrev pub free_word : ℕ
+free_word = 6
+
+-- the byte offset of the statistics
+abbrev pub stats_word : ℕ
+stats_word = 9
+
+-- the number of free pages
+abbrev pub pfree_word : ℕ
+pfree_word = 10
+
+-- the byte offsets of the first page and of the end of the zone
+abbrev pub start_word : ℕ
+start_word = 11
+
+abbrev pub end_word : ℕ
+end_word = 12
+
+-- the first of the seven words of the mutex
+abbrev pub mutex_word : ℕ
+mutex_word = 13
+
+-- the byte offset of what a zone logs beside a request that it refuses
+abbrev pub log_ctx_word : ℕ
+log_ctx_word = 20
+
+-- the byte that ends an empty text, and whether want of memory is logged
+abbrev pub zero_word : ℕ
+zero_word = 21
+
+abbrev pub log_nomem_word : ℕ
+log_nomem_word = 22
+
+-- the byte offset of what a zone keeps
+abbrev pub data_word : ℕ
+data_word = 23
+
+-- the address of the pool
+abbrev pub addr_word : ℕ
+addr_word = 24
+
+-- ---- behind the header, the heads and the statistics of the nine classes, and the descriptors
+
+-- the head of a class's list of pages, which is laid out like a descriptor
+abbrev pub head_word : ℕ → ℕ
+head_word class = addr_word + 1 + 3 * class
+
+-- the first of the four words of a class's statistics: total, used, reqs and fails
+abbrev pub stat_word : ℕ → ℕ
+stat_word class = head_word 9 + 4 * class
+
+-- the first of the three words of a page's descriptor: slab, next and prev
+abbrev pub descriptor_word : ℕ → ℕ
+descriptor_word page = stat_word 9 + 3 * page
+
+-- the page whose descriptor has this word
+abbrev pub descriptor_page : ℕ → ℕ
+descriptor_page w = (w - descriptor_word 0) / 3
+
+-- the first word of a page
+abbrev pub page_word : Shape → ℕ → ℕ
+page_word shape page = page_offset shape page / 8
+
+-- the words of the bits of a small class's page, one bit for each of its blocks
+abbrev pub bitmap_words : Shape → ℕ → ℕ
+bitmap_words shape class = (blocks_in_page shape class + 63) / 64
+
+-- ---- what links hold
+
+-- byte offset of the head of the list of free runs
+abbrev pub free_head : ℕ
+free_head = byte_of free_word
+
+-- byte offset of the head of a class's list
+abbrev pub class_head : ℕ → ℕ
+class_head class = byte_of (head_word class)
 
 -- byte offset of a page's descriptor
 unfoldable pub descriptor : ℕ → ℕ
-descriptor page = prefix_size + descriptor_size * page
+descriptor page = byte_of (descriptor_word page)
 
 -- the offset of the head, or of a page's descriptor
 abbrev pub IsPlace : ℕ → Type 0
@@ -43,11 +149,11 @@ pub record HasWords (words : List ℕ) (o slab next prev : ℕ) : Type 0 where
 
 -- the header words of the page list: the head's slab, next and prev, and the count of free pages
 abbrev pub is_list_word : ℕ → Bool
-is_list_word w = (nat_eq w 6 || nat_eq w 7) || (nat_eq w 8 || nat_eq w 10)
+is_list_word w = (nat_eq w free_word || nat_eq w (free_word + 1)) || (nat_eq w (free_word + 2) || nat_eq w pfree_word)
 
 -- the word is one of the descriptor of a page of these runs
 abbrev pub is_run_word : List Run → ℕ → Bool
-is_run_word runs w = nat_le 88 w && is_covered ((w - 88) / 3) runs
+is_run_word runs w = nat_le (descriptor_word 0) w && is_covered (descriptor_page w) runs
 
 -- every word is as before, but for those of the page list's header and of the descriptors of these runs
 pub record KeepsOthers (runs : List Run) (old new : List ℕ) : Type 0 where

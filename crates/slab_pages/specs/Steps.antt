@@ -1,24 +1,19 @@
 -- What the steps of taking and giving back a run leave in the words.
-use Rattle.std.specs.Prelude.{ℕ, ◌≡◌, ◌⊎◌, ◌+◌, ◌*◌, ◌-◌, ◌/◌, ◌<◌, ◌≤◌, false, nat_eq, List, [], ◌∷◌, length, slice_index, if◌then◌else◌}
+use Rattle.std.specs.Prelude.{ℕ, ◌≡◌, ◌⊎◌, ◌+◌, ◌-◌, ◌/◌, ◌<◌, ◌≤◌, false, nat_eq, List, [], ◌∷◌, length, slice_index, if◌then◌else◌}
 use Rattle.slab_model.specs.declared.runs.Run.{Run}
-use Rattle.slab_model.specs.Runs.{IsApart, AreSound, is_covered, pages_from, pages_before, take_run, give_run}
-use Rattle.slab_pages.specs.Places.{free_head, pfree, descriptor, slab_at, next_at, prev_at, HasWords, KeepsOthers}
+use Rattle.slab_model.specs.Runs.{IsRunApart, AreSound, is_covered, pages_from, pages_before, take_run, give_run}
+use Rattle.slab_pages.specs.Places.{free_head, pfree_word, descriptor, slab_at, next_at, prev_at, HasWords, KeepsOthers, page_limit, descriptor_word}
+use Rattle.slab_pages.specs.Frames.{SameWords}
 use Rattle.slab_pages.specs.Layout.{HasTail, LaysFrom, IsBusy, HasUsedRun}
 
 -- the words lay out this list of free runs of a zone of so many pages; the count of free pages aside
 pub record LaysList (count : ℕ) (words : List ℕ) (runs : List Run) : Type 0 where
-  pub small : count ≤ 16384
-  pub room : 88 + 3 * count ≤ length words
+  pub small : count ≤ page_limit
+  pub room : descriptor_word count ≤ length words
   pub sound : AreSound count runs
   pub slab_is : slab_at words free_head ≡ 0
   pub prev_is : prev_at words free_head ≡ 0
   pub linked : LaysFrom words free_head runs
-
--- the three words of a descriptor are as before
-pub record SameWords (old new : List ℕ) (o : ℕ) : Type 0 where
-  pub slab : slab_at new o ≡ slab_at old o
-  pub next : next_at new o ≡ next_at old o
-  pub prev : prev_at new o ≡ prev_at old o
 
 -- the descriptor at `o` has these words, and nothing else changed
 pub record SetsWords (old new : List ℕ) (o slab next prev : ℕ) : Type 0 where
@@ -30,7 +25,7 @@ pub record SetsWords (old new : List ℕ) (o slab next prev : ℕ) : Type 0 wher
 pub record FillsRun (old new : List ℕ) (first count slab : ℕ) : Type 0 where
   pub same_length : length new ≡ length old
   pub filled : (page : ℕ) → first ≤ page → page < first + count → HasWords new (descriptor page) slab 0 0
-  pub others : (w : ℕ) → (w < 88 + 3 * first) ⊎ (88 + 3 * (first + count) ≤ w) → slice_index new w ≡ slice_index old w
+  pub others : (w : ℕ) → (w < descriptor_word first) ⊎ (descriptor_word (first + count) ≤ w) → slice_index new w ≡ slice_index old w
 
 -- the later pages have no slab word and no next, and but for the last one no prev
 pub record IsBlank (words : List ℕ) (run : Run) : Type 0 where
@@ -44,7 +39,7 @@ pub record BeginsRun (old new : List ℕ) (run : Run) : Type 0 where
   pub slab : slab_at new (descriptor run.first) ≡ run.pages
   pub next : next_at new (descriptor run.first) ≡ next_at old (descriptor run.first)
   pub tail : IsBlank old run → HasTail new run
-  pub others : (w : ℕ) → (w < 88 + 3 * run.first) ⊎ (88 + 3 * (run.first + run.pages) ≤ w) → slice_index new w ≡ slice_index old w
+  pub others : (w : ℕ) → (w < descriptor_word run.first) ⊎ (descriptor_word (run.first + run.pages) ≤ w) → slice_index new w ≡ slice_index old w
 
 -- the list, but at the run that begins at `first` the rest of the list is made anew
 abbrev pub change : ℕ → (Run → List Run → List Run) → List Run → List Run
@@ -60,7 +55,7 @@ pub record Unlinks (count : ℕ) (runs : List Run) (old new : List ℕ) (first :
   pub laid : LaysList count new (without_run first runs)
   pub own : (page : ℕ) → first ≤ page → page < first + pages_from first runs → SameWords old new (descriptor page)
   pub kept : KeepsOthers runs old new
-  pub free : slice_index new pfree ≡ slice_index old pfree
+  pub free : slice_index new pfree_word ≡ slice_index old pfree_word
 
 -- the run that begins at `first` left the list, and its descriptors are cleared
 pub record Detaches (count : ℕ) (runs : List Run) (old new : List ℕ) (first pages : ℕ) : Type 0 where
@@ -68,19 +63,19 @@ pub record Detaches (count : ℕ) (runs : List Run) (old new : List ℕ) (first 
   pub laid : LaysList count new (without_run first runs)
   pub cleared : (page : ℕ) → first ≤ page → page < first + pages → HasWords new (descriptor page) 0 0 0
   pub kept : KeepsOthers runs old new
-  pub free : slice_index new pfree ≡ slice_index old pfree
+  pub free : slice_index new pfree_word ≡ slice_index old pfree_word
 
 -- the list is this one now, and but for its descriptors everything is as before
 pub record Relists (count : ℕ) (runs after : List Run) (old new : List ℕ) : Type 0 where
   pub laid : LaysList count new after
   pub kept : KeepsOthers runs old new
-  pub free : slice_index new pfree ≡ slice_index old pfree
+  pub free : slice_index new pfree_word ≡ slice_index old pfree_word
 
 -- no page of the run is listed, and all its descriptors are cleared
 pub record IsCleared (count : ℕ) (words : List ℕ) (runs : List Run) (run : Run) : Type 0 where
   pub some : 0 < run.pages
   pub within : run.first + run.pages ≤ count
-  pub apart : IsApart run runs
+  pub apart : IsRunApart run runs
   pub cleared : (page : ℕ) → run.first ≤ page → page < run.first + run.pages → HasWords words (descriptor page) 0 0 0
 
 -- the run that begins at this page is free, or the page isn't, or it is the end of the zone
@@ -99,19 +94,19 @@ start_at words o = if nat_eq (slab_at words o) 0 then prev_at words o else o
 pub record MarksUsed (old new : List ℕ) (first n : ℕ) : Type 0 where
   pub same_length : length new ≡ length old
   pub used : HasUsedRun new first n
-  pub others : (w : ℕ) → (w < 88 + 3 * first) ⊎ (88 + 3 * (first + n) ≤ w) → slice_index new w ≡ slice_index old w
+  pub others : (w : ℕ) → (w < descriptor_word first) ⊎ (descriptor_word (first + n) ≤ w) → slice_index new w ≡ slice_index old w
 
 -- pages are taken from the first run that has as many
 pub record TakesRun (count : ℕ) (runs : List Run) (old new : List ℕ) (first n : ℕ) : Type 0 where
   pub laid : LaysList count new (take_run n runs)
-  pub counted : slice_index new pfree + n ≡ slice_index old pfree
+  pub counted : slice_index new pfree_word + n ≡ slice_index old pfree_word
   pub used : HasUsedRun new first n
   pub kept : KeepsOthers runs old new
 
 -- a used run came back
 pub record GivesRun (count : ℕ) (runs : List Run) (old new : List ℕ) (run : Run) : Type 0 where
   pub laid : LaysList count new (give_run run runs)
-  pub counted : slice_index new pfree ≡ slice_index old pfree + run.pages
+  pub counted : slice_index new pfree_word ≡ slice_index old pfree_word + run.pages
   pub kept : KeepsOthers (give_run run runs) old new
 
 -- none of the pages from `first` up to `end` is in these runs

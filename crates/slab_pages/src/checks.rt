@@ -1,10 +1,13 @@
-ghost use Rattle.std.specs.Prelude.{◌≡◌, ℕ, ◌+◌, ◌*◌, ◌<◌, ◌≤◌, ◌↔◌, length, false, List, IsTrue};
+ghost use Rattle.std.specs.Prelude.{◌≡◌, ℕ, ◌+◌, ◌<◌, ◌≤◌, ◌↔◌, ◌||◌, length, false, List, IsTrue};
 ghost use Rattle.slab_model.specs.declared.runs.Run.{Run};
 ghost use Rattle.slab_model.specs.Runs.{is_covered, is_within};
+ghost use Rattle.slab_pages.specs.Places.{page_limit, descriptor_word};
 ghost use Rattle.slab_pages.specs.Layout.{IsBusy, CanComeBack};
 ghost use Rattle.slab_pages.specs.Steps.{IsClearOfFree, LaysList};
 
-use crate::descriptors::{FREE_HEAD, next, offset_of, page_of, prev, slab};
+use crate::descriptors::{next, offset_of, page_of, prev, slab};
+use crate::places::FREE_HEAD;
+use slab_model::Run;
 use zone_region::Region;
 
 // The page is one of the `pages` pages from `first` on.
@@ -14,19 +17,32 @@ fn is_in(page: u64, first: u64, pages: u64) -> bool
     first <= page && page - first < pages
 }
 
-// The page is free.
-pub(crate) fn is_free(region: &Region, page: u64) -> bool
-    requires { ((count : ℕ) × (runs : List Run) × LaysList count region.now runs) }
-    ensures { (count : ℕ) (runs : List Run) → LaysList count region.now runs → result ≡ is_covered page runs }
+// The `n` pages from `first` on and those of a run have one in common.
+fn meets(first: u64, n: u64, run: Run) -> bool
+    ensures { result ≡ (is_within first run.first run.pages || is_within run.first first n) }
+{
+    is_in(first, run.first, run.pages) || is_in(run.first, first, n)
+}
+
+// None of the `n` pages from `first` on is free. It walks the list of free runs once.
+pub(crate) fn is_apart(region: &Region, first: u64, n: u64) -> bool
+    requires some { 0 < n }
+    requires laid { ((count : ℕ) × (runs : List Run) × LaysList count region.now runs) }
+    ensures { (count : ℕ) (runs : List Run) → LaysList count region.now runs →
+        (IsTrue result ↔ IsClearOfFree runs first (first + n)) }
 {
     let mut o = next(region, FREE_HEAD);
     // There are fewer runs than words.
     for step in 0..region.len() {
         if o == FREE_HEAD {
-            return false;
-        }
-        if is_in(page, page_of(o), slab(region, o)) {
             return true;
+        }
+        let run = Run {
+            first: page_of(o),
+            pages: slab(region, o),
+        };
+        if meets(first, n, run) {
+            return false;
         }
         o = next(region, o);
     }
@@ -35,27 +51,12 @@ pub(crate) fn is_free(region: &Region, page: u64) -> bool
 
 // The page's descriptor is that of a page that isn't free.
 fn is_busy(region: &Region, page: u64) -> bool
-    requires small { page < 16384 }
-    requires room { 88 + 3 * page + 2 < length region.now }
+    requires small { page < page_limit }
+    requires room { descriptor_word page + 2 < length region.now }
     ensures { IsTrue result ↔ IsBusy region.now page }
 {
     let o = offset_of(page);
     prev(region, o) % 4 != 0 || (next(region, o) == 0 && slab(region, o) != 0)
-}
-
-// None of the `n` pages from `first` on is free.
-pub(crate) fn is_apart(region: &Region, first: u64, n: u64) -> bool
-    requires small { first + n ≤ 16384 }
-    requires laid { ((count : ℕ) × (runs : List Run) × LaysList count region.now runs) }
-    ensures { (count : ℕ) (runs : List Run) → LaysList count region.now runs →
-        (IsTrue result ↔ IsClearOfFree runs first (first + n)) }
-{
-    for page in first..first + n {
-        if is_free(region, page) {
-            return false;
-        }
-    }
-    true
 }
 
 // The page is free, or its descriptor is that of a page that isn't.
@@ -64,10 +65,7 @@ pub(crate) fn is_settled(region: &Region, page: u64) -> bool
     ensures { (count : ℕ) (runs : List Run) → LaysList count region.now runs →
         (IsTrue result ↔ (is_covered page runs ≡ false → IsBusy region.now page)) }
 {
-    if is_free(region, page) {
-        return true;
-    }
-    is_busy(region, page)
+    !is_apart(region, page, 1) || is_busy(region, page)
 }
 
 // The page before this one, if there is one, is settled.

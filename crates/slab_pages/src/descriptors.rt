@@ -1,21 +1,18 @@
 ghost use Rattle.std.specs.Prelude.{◌≡◌, ℕ, ◌+◌, ◌*◌, ◌-◌, ◌/◌, ◌<◌, ◌≤◌, length, slice_set};
 ghost use Rattle.slab_model.specs.declared.runs.Run.{Run};
-ghost use Rattle.slab_pages.specs.Places.{IsPlace, Links, descriptor, next_at, prev_at, slab_at};
+ghost use Rattle.slab_pages.specs.Places.{IsPlace, Links, page_limit, descriptor_word, descriptor, next_at, prev_at, slab_at};
 ghost use Rattle.slab_pages.specs.Steps.{FillsRun, SetsWords, BeginsRun};
 
-use slab_model::geometry::{DESCRIPTOR_SIZE, PREFIX_SIZE};
+use crate::places::{FREE_HEAD, byte_offset, descriptor_at};
 use zone_region::Region;
-
-/// Byte offset of the head of the list of free runs.
-pub(crate) const FREE_HEAD: u64 = 48;
 
 // Byte offset of a page's descriptor.
 #[tactic(auto, unfolding(crate::specs::Places::descriptor))]
 pub(crate) fn offset_of(page: u64) -> u64
-    requires { page ≤ 16384 }
+    requires { page ≤ page_limit }
     ensures { result ≡ descriptor page }
 {
-    PREFIX_SIZE + DESCRIPTOR_SIZE * page
+    byte_offset(descriptor_at(page))
 }
 
 // The page whose descriptor is at this byte offset.
@@ -24,7 +21,7 @@ pub(crate) fn page_of(o: u64) -> u64
     requires { ((page : ℕ) × (o ≡ descriptor page)) }
     ensures { (page : ℕ) → o ≡ descriptor page → result ≡ page }
 {
-    (o - PREFIX_SIZE) / DESCRIPTOR_SIZE
+    (o / 8 - descriptor_at(0)) / 3
 }
 
 // The slab word of the descriptor at byte offset `o`.
@@ -77,8 +74,8 @@ pub(crate) fn set_words(region: &mut Region, o: u64, slab: u64, next: u64, prev:
 
 // Gives the descriptors of `count` pages this slab word and no links.
 pub(crate) fn fill(region: &mut Region, first: u64, count: u64, slab: u64)
-    requires small { first + count ≤ 16384 }
-    requires room { 88 + 3 * (first + count) ≤ length region.old }
+    requires small { first + count ≤ page_limit }
+    requires room { descriptor_word (first + count) ≤ length region.old }
     ensures { FillsRun region.old region.new first count slab }
 {
     for page in first..first + count {
@@ -90,8 +87,8 @@ pub(crate) fn fill(region: &mut Region, first: u64, count: u64, slab: u64)
 // The links of the list are still to be written.
 pub(crate) fn begin_run(region: &mut Region, first: u64, pages: u64)
     requires some { 0 < pages }
-    requires small { first + pages ≤ 16384 }
-    requires room { 88 + 3 * (first + pages) ≤ length region.old }
+    requires small { first + pages ≤ page_limit }
+    requires room { descriptor_word (first + pages) ≤ length region.old }
     ensures { BeginsRun region.old region.new (record { first = first; pages = pages }) }
 {
     let o = offset_of(first);

@@ -1,13 +1,15 @@
 ghost use Rattle.std.specs.Prelude.{◌≡◌, ◌<◌, ◌≤◌, ◌↔◌, IsErr, IfOk};
-ghost use Rattle.slab_model.specs.Geometry.{pages_of, start_of, least_zone, greatest_zone};
+ghost use Rattle.slab_model.specs.Geometry.{IsInLimits, pages_of, start_of, least_zone, greatest_zone, only_shift};
 
-use slab_model::geometry::{page_count, start_offset};
+use slab_model::{Shape, page_count, start_offset};
+use thiserror::Error;
 
 /// The least bytes of a zone: eight pages.
 pub const LEAST_ZONE: u64 = 32_768;
 
 /// A zone of fewer bytes than eight pages is refused.
-#[derive(Clone, Copy, Debug, PartialEq, Eq)]
+#[derive(Clone, Copy, Debug, PartialEq, Eq, Error)]
+#[error("the zone is smaller than 8 pages")]
 pub struct TooSmall;
 
 /// How a zone is cut into its header, its descriptors and its pages.
@@ -23,11 +25,9 @@ pub struct Geometry {
     pub pages: u64,
     /// The byte offset of the first page.
     pub start: u64,
-    ghost large: { least_zone ≤ bytes },
-    ghost small: { bytes ≤ greatest_zone },
-    ghost shift_is: { page_shift ≡ 12 },
-    ghost pages_are: { pages ≡ pages_of bytes },
-    ghost start_is: { start ≡ start_of bytes },
+    ghost limits: { IsInLimits (record { bytes = bytes; page_shift = page_shift }) },
+    ghost pages_are: { pages ≡ pages_of (record { bytes = bytes; page_shift = page_shift }) },
+    ghost start_is: { start ≡ start_of (record { bytes = bytes; page_shift = page_shift }) },
 }
 
 impl Geometry {
@@ -38,22 +38,36 @@ impl Geometry {
     /// After `ngx_slab_init`, with this project's header of 200 bytes.
     pub fn of(bytes: u64, page_shift: u32) -> Result<Geometry, TooSmall>
         requires small { bytes ≤ greatest_zone }
-        requires shift { page_shift ≡ 12 }
-        ensures too_small { IsErr result ↔ (bytes < least_zone) }
+        requires shift { page_shift ≡ only_shift }
+        ensures too_small { let shape : Shape = record { bytes = bytes; page_shift = page_shift } in
+            IsErr result ↔ (bytes < least_zone shape) }
         ensures bytes { IfOk result (λ g. g.bytes ≡ bytes) }
         ensures shift { IfOk result (λ g. g.page_shift ≡ page_shift) }
-        ensures pages { IfOk result (λ g. g.pages ≡ pages_of bytes) }
-        ensures start { IfOk result (λ g. g.start ≡ start_of bytes) }
+        ensures pages { let shape : Shape = record { bytes = bytes; page_shift = page_shift } in
+            IfOk result (λ g. g.pages ≡ pages_of shape) }
+        ensures start { let shape : Shape = record { bytes = bytes; page_shift = page_shift } in
+            IfOk result (λ g. g.start ≡ start_of shape) }
     {
         if bytes < LEAST_ZONE {
             return Err(TooSmall);
         }
+        let shape = Shape { bytes, page_shift };
         Ok(Geometry {
             bytes,
             page_shift,
-            pages: page_count(bytes),
-            start: start_offset(bytes),
+            pages: page_count(shape),
+            start: start_offset(shape),
         })
+    }
+
+    /// The bytes of the zone and the size of its pages.
+    pub fn shape(&self) -> Shape
+        ensures { result ≡ record { bytes = self.now.bytes; page_shift = self.now.page_shift } }
+    {
+        Shape {
+            bytes: self.bytes,
+            page_shift: self.page_shift,
+        }
     }
 }
 

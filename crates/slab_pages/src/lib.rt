@@ -3,12 +3,13 @@
 
 mod checks;
 mod descriptors;
-pub mod geometry;
+mod geometry;
 mod opening;
-pub mod pages;
+mod pages;
+pub mod places;
 mod runs;
 
-pub use geometry::{Geometry, TooSmall};
+pub use geometry::{Geometry, LEAST_ZONE, TooSmall};
 pub use pages::{Page, Pages};
 
 #[cfg(test)]

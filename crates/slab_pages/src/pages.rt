@@ -1,15 +1,16 @@
-ghost use Rattle.std.specs.Prelude.{◌≡◌, ◌+◌, ◌<◌, ◌/◌, length, false, List, Some, None, MatchOption, IfSome, IfNone, IfOk, IsTrue, slice_index, slice_set};
+ghost use Rattle.std.specs.Prelude.{◌≡◌, ◌+◌, ◌<◌, ◌/◌, length, false, List, Some, None, MatchOption, IfSome, IfNone, IfOk, IsTrue, ◌↔◌, slice_index, slice_set};
 ghost use Rattle.slab_model.specs.declared.runs.Run.{Run};
-ghost use Rattle.slab_model.specs.Geometry.{pages_of};
 ghost use Rattle.slab_model.specs.Runs.{first_fit, give_run, page_total, take_run};
-ghost use Rattle.slab_pages.specs.Places.{Image, KeepsOthers, is_list_word, is_run_word};
-ghost use Rattle.slab_pages.specs.Layout.{HasUsedRun, CanComeBack, LaysRuns};
+ghost use Rattle.slab_pages.specs.Shapes.{shape_in};
+ghost use Rattle.slab_pages.specs.Places.{Image, KeepsOthers};
+ghost use Rattle.slab_pages.specs.Layout.{HasUsedRun, LaysRuns, MayPut, MaySet};
 ghost use Rattle.slab_pages.specs.SlabLayout.{IsOpened};
 
 use crate::checks::can_come_back;
 use crate::geometry::Geometry;
 use crate::opening::prepare;
-use crate::runs::{PFREE, add_run, find_fit, give_pages, take_pages};
+use crate::places::PFREE_WORD;
+use crate::runs::{add_run, find_fit, give_pages, take_pages};
 use std::alloc::Global;
 use std::marker::Model;
 use zone_outside::NoMemory;
@@ -36,14 +37,15 @@ pub struct Pages {
 impl Model for Pages {
     ghost use Rattle.std.specs.Prelude.{List};
     ghost use Rattle.slab_model.specs.declared.runs.Run.{Run};
+    ghost use Rattle.slab_pages.specs.Shapes.{shape_in};
     ghost use Rattle.slab_pages.specs.Places.{Image};
     ghost use Rattle.slab_pages.specs.Layout.{LaysRuns};
 
     ghost Value = { Image };
 
-    ghost view = { λ p. record { bytes = p.geometry.bytes; words = p.region } };
+    ghost view = { λ p. record { shape = shape_in p.geometry; words = p.region } };
 
-    ghost invariant = { λ p. ((runs : List Run) × LaysRuns (record { bytes = p.geometry.bytes; words = p.region }) runs) };
+    ghost invariant = { λ p. ((runs : List Run) × LaysRuns (record { shape = shape_in p.geometry; words = p.region }) runs) };
 }
 
 impl Pages {
@@ -51,12 +53,12 @@ impl Pages {
     ///
     /// `NoMemory` comes where there is no memory for the zone's bytes, and for nothing else.
     pub fn open(alloc: Global, g: Geometry) -> Result<Pages, NoMemory>
-        ensures { IfOk result (λ pages. IsOpened g.bytes pages) }
+        ensures { IfOk result (λ pages. IsOpened (shape_in g) pages) }
     {
         let mut region = Region::zeroed(alloc, g.bytes / 8)?;
         prepare(&mut region, &g);
         add_run(&mut region, 0, g.pages);
-        region.store(PFREE, g.pages);
+        region.store(PFREE_WORD, g.pages);
         Ok(Pages {
             region,
             geometry: g,
@@ -65,7 +67,7 @@ impl Pages {
 
     /// How the zone is cut.
     pub fn geometry(&self) -> Geometry
-        ensures { result.bytes ≡ self.now.bytes }
+        ensures { shape_in result ≡ self.now.shape }
     {
         self.geometry
     }
@@ -76,7 +78,7 @@ impl Pages {
         ensures only { (xs ys : List Run) → LaysRuns self.now xs → LaysRuns self.now ys → xs ≡ ys }
         ensures count { (runs : List Run) → LaysRuns self.now runs → result ≡ page_total runs }
     {
-        self.region.load(PFREE)
+        self.region.load(PFREE_WORD)
     }
 
     /// The number of the zone's words.
@@ -96,10 +98,8 @@ impl Pages {
 
     /// Makes word `w` be `v`, and leaves every other word. It may not be one that the free runs are kept in.
     pub fn set_word(&mut self, w: u64, v: u64)
-        requires within { w < length self.old.words }
-        requires not_listed { is_list_word w ≡ false }
-        requires not_free { (runs : List Run) → LaysRuns self.old runs → is_run_word runs w ≡ false }
-        ensures set { self.new ≡ record { bytes = self.old.bytes; words = slice_set self.old.words w v } }
+        requires { MaySet self.old w }
+        ensures set { self.new ≡ record { shape = self.old.shape; words = slice_set self.old.words w v } }
         ensures laid { (runs : List Run) → LaysRuns self.old runs → LaysRuns self.new runs }
     {
         self.region.store(w, v);
@@ -116,7 +116,7 @@ impl Pages {
         ensures laid { (runs : List Run) → LaysRuns self.old runs → LaysRuns self.new (take_run n runs) }
         ensures used { IfSome result (λ p. HasUsedRun self.new.words p.number n) }
         ensures kept { (runs : List Run) → LaysRuns self.old runs → KeepsOthers runs self.old.words self.new.words }
-        ensures bytes { self.new.bytes ≡ self.old.bytes }
+        ensures shape { self.new.shape ≡ self.old.shape }
         ensures none { IfNone result (self.new ≡ self.old) }
     {
         match find_fit(&self.region, n) {
@@ -133,13 +133,7 @@ impl Pages {
     ///
     /// It walks the list of free runs for each page.
     pub fn can_put(&self, p: Page, n: u64) -> bool
-        ensures laid { ((runs : List Run) × LaysRuns self.now runs) }
-        ensures yes { let run : Run = record { first = p.number; pages = n } in
-            IsTrue result →
-            (runs : List Run) → LaysRuns self.now runs → CanComeBack (pages_of self.now.bytes) self.now.words runs run }
-        ensures whenever { let run : Run = record { first = p.number; pages = n } in
-            (runs : List Run) → LaysRuns self.now runs → CanComeBack (pages_of self.now.bytes) self.now.words runs run →
-            IsTrue result }
+        ensures { IsTrue result ↔ MayPut self.now (record { first = p.number; pages = n }) }
     {
         let pages = self.geometry.pages;
         if n == 0 || p.number >= pages || n > pages - p.number {
@@ -157,13 +151,12 @@ impl Pages {
     ///
     /// It reads the descriptors next to the pages and doesn't walk the list, so its time doesn't grow with it.
     pub fn put(&mut self, p: Page, n: u64)
-        requires { let run : Run = record { first = p.number; pages = n } in
-            (runs : List Run) → LaysRuns self.old runs → CanComeBack (pages_of self.old.bytes) self.old.words runs run }
+        requires { MayPut self.old (record { first = p.number; pages = n }) }
         ensures laid { let run : Run = record { first = p.number; pages = n } in
             (runs : List Run) → LaysRuns self.old runs → LaysRuns self.new (give_run run runs) }
         ensures kept { let run : Run = record { first = p.number; pages = n } in
             (runs : List Run) → LaysRuns self.old runs → KeepsOthers (give_run run runs) self.old.words self.new.words }
-        ensures bytes { self.new.bytes ≡ self.old.bytes }
+        ensures shape { self.new.shape ≡ self.old.shape }
     {
         give_pages(&mut self.region, self.geometry.pages, p.number, n);
     }

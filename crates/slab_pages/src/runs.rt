@@ -1,17 +1,13 @@
 ghost use Rattle.std.specs.Prelude.{◌≡◌, ◌≢◌, ◌⊎◌, ℕ, ◌+◌, ◌*◌, ◌-◌, ◌/◌, ◌%◌, ◌<◌, ◌≤◌, ◌↔◌, length, List, ◌∷◌, Some, MatchOption, IsTrue, false, slice_index};
 ghost use Rattle.slab_model.specs.declared.runs.Run.{Run};
 ghost use Rattle.slab_model.specs.Runs.{first_fit, give_run, is_covered, page_total, pages_before, pages_from, take_run};
-ghost use Rattle.slab_pages.specs.Places.{descriptor, next_at, pfree, prev_at};
+ghost use Rattle.slab_pages.specs.Places.{page_limit, descriptor_word, descriptor, next_at, pfree_word, prev_at};
 ghost use Rattle.slab_pages.specs.Layout.{CanComeBack};
 ghost use Rattle.slab_pages.specs.Steps.{Detaches, GivesRun, IsAfter, IsBefore, IsCleared, LaysList, MarksUsed, Relists, TakesRun, Unlinks, start_at};
 
-use crate::descriptors::{
-    FREE_HEAD, begin_run, fill, link, next, offset_of, page_of, prev, set_words, slab,
-};
+use crate::descriptors::{begin_run, fill, link, next, offset_of, page_of, prev, set_words, slab};
+use crate::places::{FREE_HEAD, PFREE_WORD};
 use zone_region::Region;
-
-/// The word that counts the free pages.
-pub(crate) const PFREE: u64 = 10;
 
 /// Marks the number of pages in the first descriptor of a used run.
 const USED: u64 = 1 << 63;
@@ -86,8 +82,8 @@ fn cut(region: &mut Region, first: u64, n: u64)
 // Writes the descriptors of a used run.
 fn mark_used(region: &mut Region, first: u64, n: u64)
     requires some { 0 < n }
-    requires small { first + n ≤ 16384 }
-    requires room { 88 + 3 * (first + n) ≤ length region.old }
+    requires small { first + n ≤ page_limit }
+    requires room { descriptor_word (first + n) ≤ length region.old }
     ensures { MarksUsed region.old region.new first n }
 {
     set_words(region, offset_of(first), n + USED, 0, 0);
@@ -110,8 +106,8 @@ fn detach(region: &mut Region, first: u64) -> u64
 
 // A free run begins at this page, if one that isn't free ends before it.
 fn is_first(region: &Region, page: u64) -> bool
-    requires small { page < 16384 }
-    requires room { 88 + 3 * page + 2 < length region.now }
+    requires small { page < page_limit }
+    requires room { descriptor_word page + 2 < length region.now }
     ensures { IsTrue result ↔ ((prev_at region.now (descriptor page) % 4 ≡ 0) × (next_at region.now (descriptor page) ≢ 0)) }
 {
     let o = offset_of(page);
@@ -200,31 +196,31 @@ pub(crate) fn add_run(region: &mut Region, first: u64, pages: u64)
 pub(crate) fn take_pages(region: &mut Region, first: u64, n: u64)
     requires some { 0 < n }
     requires laid { ((count : ℕ) × (runs : List Run) × LaysList count region.old runs × (first_fit n runs ≡ Some first) ×
-        (slice_index region.old pfree ≡ page_total runs)) }
+        (slice_index region.old pfree_word ≡ page_total runs)) }
     ensures { (count : ℕ) (runs : List Run) → LaysList count region.old runs → first_fit n runs ≡ Some first →
-        slice_index region.old pfree ≡ page_total runs →
+        slice_index region.old pfree_word ≡ page_total runs →
         TakesRun count runs region.old region.new first n }
 {
     cut(region, first, n);
     mark_used(region, first, n);
-    let free = region.load(PFREE);
-    region.store(PFREE, free - n);
+    let free = region.load(PFREE_WORD);
+    region.store(PFREE_WORD, free - n);
 }
 
 // Gives `n` pages from page `first` on back to a zone of `count` pages, and counts them.
 pub(crate) fn give_pages(region: &mut Region, count: u64, first: u64, n: u64)
     requires { let run : Run = record { first = first; pages = n } in
         ((runs : List Run) × LaysList count region.old runs × CanComeBack count region.old runs run ×
-        (slice_index region.old pfree ≡ page_total runs)) }
+        (slice_index region.old pfree_word ≡ page_total runs)) }
     ensures { let run : Run = record { first = first; pages = n } in
         (runs : List Run) → LaysList count region.old runs → CanComeBack count region.old runs run →
-        slice_index region.old pfree ≡ page_total runs →
+        slice_index region.old pfree_word ≡ page_total runs →
         GivesRun count runs region.old region.new run }
 {
     fill(region, first, n, 0);
     let after = detach_after(region, first + n, count);
     let before = detach_before(region, first);
     add_run(region, first - before, before + n + after);
-    let free = region.load(PFREE);
-    region.store(PFREE, free + n);
+    let free = region.load(PFREE_WORD);
+    region.store(PFREE_WORD, free + n);
 }

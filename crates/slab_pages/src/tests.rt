@@ -1,6 +1,6 @@
 use crate::geometry::Geometry;
 use crate::pages::{Page, Pages};
-use slab_model::plain::PlainSlab;
+use slab_model::PlainSlab;
 use std::alloc::Global;
 use std::process::Abort;
 use std::test::Fail;

@@ -5,7 +5,7 @@
 ghost use Rattle.std.specs.Prelude.{IfOk};
 ghost use Rattle.zone_counters.specs.Counting.{Lays, AreZero, opened};
 
-use slab_model::stat::Stat;
+use slab_model::Stat;
 use std::alloc::Global;
 use std::collections::LinkedList;
 use std::marker::Model;

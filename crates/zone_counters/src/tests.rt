@@ -3,7 +3,7 @@ ghost use Rattle.zone_object.specs.History.{own};
 ghost use Rattle.zone_counters.specs.Counting.{given, back};
 
 use crate::{CounterCall, CounterReply, Counters};
-use slab_model::stat::Stat;
+use slab_model::Stat;
 use std::alloc::Global;
 use std::test::Fail;
 use zone_object::{Journal, ZoneView, apply_uncounted};

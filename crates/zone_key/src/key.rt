@@ -28,6 +28,13 @@ impl Key {
         })
     }
 
+    /// The key whose bytes these are. It takes no memory.
+    pub fn from_vec(bytes: Vec<u8>) -> Key
+        ensures { result ≡ bytes.items }
+    {
+        Key { bytes }
+    }
+
     /// The number of its bytes.
     pub fn len(&self) -> u64
         ensures { result ≡ length self.now }

@@ -1,4 +1,4 @@
-pub use Rattle.slab_model.specs.Slab
+pub use Rattle.slab_model.specs.State
 pub mod History
 pub mod Fair
 pub mod Carried

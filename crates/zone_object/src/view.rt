@@ -1,9 +1,9 @@
 ghost use Rattle.std.specs.Prelude.{◌≡◌, ℕ, ◌<◌, List, length, slice_index, slice_index_or};
-ghost use Rattle.slab_model.specs.Slab.{no_stat};
+ghost use Rattle.slab_model.specs.State.{no_stat};
 ghost use Rattle.slab_model.specs.declared.stat.Stat.{Stat};
 
 use crate::object::ZoneObject;
-use slab_model::stat::Stat;
+use slab_model::Stat;
 
 /// An object of which the words and the numbers can be read.
 ///

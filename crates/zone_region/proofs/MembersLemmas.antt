@@ -1,5 +1,6 @@
 -- Members of lists that are joined and split.
-use Rattle.std.proofs.Common.{ℕ, ◌≡◌, ◌⊎◌, List, [], ◌∷◌, ◌++◌, sym, ap, refl, inl, inr}
+use Rattle.std.proofs.Common.{ℕ, ◌≡◌, ◌⊎◌, ◌+◌, List, [], ◌∷◌, ◌++◌, length, sym, ap, subst, refl, inl, inr, arith}
+use Rattle.std.proofs.lemmas.List.{length-append}
 use Rattle.zone_region.specs.Members.{In, IsDistinct}
 
 pub In-append_left : (a : ℕ) (xs ys : List ℕ) → In a xs → In a (xs ++ ys)
@@ -49,3 +50,22 @@ pub IsDistinct-join : (xs : List ℕ) (a : ℕ) (ys : List ℕ) → IsDistinct (
 IsDistinct-join [] a ys d n = (n, d)
 IsDistinct-join (x ∷ xs) a ys d n =
     (λ h. elim (In-one_more x xs a ys h) [ inl e ↦ n (inl (sym e)) | inr i ↦ d.0 i ], IsDistinct-join xs a ys d.1 (λ h. n (inr h)))
+
+-- an element that is moved to the front is a member as before
+pub In-moved : (a : ℕ) (xs : List ℕ) (b : ℕ) (ys : List ℕ) → In a (b ∷ xs ++ ys) → In a (xs ++ b ∷ ys)
+In-moved a xs b ys h = elim h [ inl e ↦ In-append_right a xs (b ∷ ys) (inl e) | inr t ↦ In-more a xs b ys t ]
+
+pub IsDistinct-moved : (xs : List ℕ) (b : ℕ) (ys : List ℕ) → IsDistinct (xs ++ b ∷ ys) → IsDistinct (b ∷ xs ++ ys)
+IsDistinct-moved xs b ys d = let s = IsDistinct-split xs b ys d in (s.1, s.0)
+
+-- two distinct lists with the same members are equally long
+pub same_length : (xs ys : List ℕ) → IsDistinct xs → IsDistinct ys → ((x : ℕ) → In x xs → In x ys) → ((x : ℕ) → In x ys → In x xs) → length xs ≡ length ys
+same_length [] [] dx dy to back = refl
+same_length [] (y ∷ ys) dx dy to back = absurd (back y (inl refl))
+same_length (x ∷ xs) ys dx dy to back =
+    let s = In-split x ys (to x (inl refl)) in
+    let d = IsDistinct-split s.0 x s.1 (subst (λ (zs : List ℕ). IsDistinct zs) s.2 dy) in
+    let rest = same_length xs (s.0 ++ s.1) dx.1 d.0
+    (λ z i. elim (In-one_more z s.0 x s.1 (subst (λ (zs : List ℕ). In z zs) s.2 (to z (inr i)))) [ inl e ↦ absurd (dx.0 (subst (λ (w : ℕ). In w xs) e i)) | inr j ↦ j ])
+    (λ z i. elim (back z (subst (λ (zs : List ℕ). In z zs) (sym s.2) (In-more z s.0 x s.1 i))) [ inl e ↦ absurd (d.1 (subst (λ (w : ℕ). In w (s.0 ++ s.1)) e i)) | inr j ↦ j ]) in
+    omega (arith, rest, ap (λ zs. length zs) s.2, length-append s.0 (x ∷ s.1), length-append s.0 s.1)

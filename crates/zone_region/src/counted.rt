@@ -1,4 +1,4 @@
-ghost use Rattle.std.specs.Prelude.{◌≡◌};
+ghost use Rattle.std.specs.Prelude.{◌≡◌, []};
 ghost use Rattle.zone_region.specs.Entries.{words_in};
 
 use crate::blocks::{Block, Blocks};
@@ -36,6 +36,8 @@ impl CountedBlocks {
 
 impl Blocks for CountedBlocks {
     ghost words = { λ s. words_in s.blocks.entries.items };
+
+    ghost rest = { λ _. [] };
 
     fn word<L: Ledger>(&self, b: Block, i: u64, steps: &mut Steps<L>) -> u64 {
         self.reads.fetch_add(1, Ordering::SeqCst);

@@ -5,6 +5,7 @@ use crate::counted::CountedBlocks;
 use crate::memory::MemBlocks;
 use crate::region::Region;
 use crate::steps::Steps;
+use crate::tallied::TalliedBlocks;
 use std::alloc::Global;
 use std::marker::Brand;
 use std::process::Abort;
@@ -50,4 +51,19 @@ fn counts<L: Ledger, R: Abort>(rt: &R, alloc: Global, blank: Blank) -> Result<()
 #[test]
 fn blocks(rt: HostRuntime) -> Result<(), Fail> {
     counts::<Brand, HostRuntime>(&rt, rt.alloc(), Blank::new(1))
+}
+
+/// A word that is set leaves the tally beside the blocks.
+#[test]
+fn tally(rt: HostRuntime) -> Result<(), Fail> {
+    let b = Block { at: 64 };
+    let mut zone = TalliedBlocks {
+        blocks: MemBlocks::new(rt.alloc()),
+        added: 0,
+    };
+    zone.add(rt.alloc(), b, 2)?;
+    zone.set(b, 1, 9);
+    assert_eq!(rt; read(&zone, b, 1), 9);
+    assert_eq!(rt; zone.added, 1);
+    Ok(())
 }

@@ -5,7 +5,7 @@ use Rattle.req_zone.specs.declared.calls.ReqReply.{ReqReply}
 use Rattle.req_zone.specs.declared.calls.ReqReply.TheVariants.{Pass, Busy}
 use Rattle.req_zone.specs.Amount.{amount_of}
 use Rattle.req_zone.specs.Table.{Entry, entry_of, others}
-use Rattle.req_zone.specs.Memory.{State}
+use Rattle.req_zone.specs.State.{State}
 use Rattle.req_zone.specs.Expiry.{first_leaving, evict}
 use Rattle.req_zone.specs.Calls.{Call, Reply, reply_of}
 use Rattle.req_zone.specs.Calls.Call.{check}

@@ -1,27 +1,20 @@
-use Rattle.std.proofs.Common.{◌≡◌, ℕ, ◌*◌, ◌-◌, sym, inl, inr, arith, ap, ◌∙◌, Some}
-use Rattle.offset_queue.proofs.Steps.{last_cases}
+use Rattle.std.proofs.Common.{ℕ, ◌≡◌, ◌∷◌, [], ◌++◌, inl, inr, sym, ap, subst, ◌∙◌}
+use Rattle.offset_queue.proofs.Joints.{back_found}
+use Rattle.offset_queue.proofs.Queues.{last_cases}
 use Rattle.offset_queue.proofs.calls.last.Goals as goal
 
-pub overflow_mul-result : goal.overflow_mul-result
-overflow_mul-result g c = elim (last_cases _ _ _ c.prev-p.result c.requires.0 c.requires.1 c.prev-p.ensures) [
-  | inl e ↦ absurd (c.if-p-head.false e.1)
-  | inr s ↦ omega (arith, s.2, c.prev-p.type_inv)
-]
+pub prev-requires : goal.prev-requires
+prev-requires g c = (c.requires.0, c.requires.1, inl c.head_of.ensures)
 
-pub overflow_sub-result : goal.overflow_sub-result
-overflow_sub-result g c = elim (last_cases _ _ _ c.prev-p.result c.requires.0 c.requires.1 c.prev-p.ensures) [
-  | inl e ↦ absurd (c.if-p-head.false e.1)
-  | inr s ↦ omega (arith, s.2)
-]
+pub returns-then-back-q : goal.returns-then-back-q
+returns-then-back-q g c = λ xs h.
+    let e = ap (λ (a : ℕ × ℕ). a.0) (back_found _ _ _ xs _ _ h c.head_of.ensures c.prev.ensures) in
+    elim (last_cases _ _ _ xs h) [ inl none ↦ none.0 | inr some ↦ absurd (some.2 (sym e ∙ c.if-back-q.true)) ]
 
-pub returns-then-p-head : goal.returns-then-p-head
-returns-then-p-head g c = λ xs h. elim (last_cases _ _ _ c.prev-p.result xs h c.prev-p.ensures) [
-  | inl e ↦ sym e.0
-  | inr s ↦ absurd (s.3 c.if-p-head.true)
-]
-
-pub returns-else-p-head : goal.returns-else-p-head
-returns-else-p-head g c = λ xs h. elim (last_cases _ _ _ c.prev-p.result xs h c.prev-p.ensures) [
-  | inl e ↦ absurd (c.if-p-head.false e.1)
-  | inr s ↦ let same : c.prev-p.result - 8 * c.args.link ≡ s.0 = omega (arith, s.2) in ap (λ (x : ℕ). Some x) same ∙ sym s.1
-]
+pub returns-else-back-q : goal.returns-else-back-q
+returns-else-back-q g c = λ xs h.
+    let e = ap (λ (a : ℕ × ℕ). a.0) (back_found _ _ _ xs _ _ h c.head_of.ensures c.prev.ensures) in
+    elim (last_cases _ _ _ xs h) [
+      | inl none ↦ absurd (c.if-back-q.false (e ∙ none.1))
+      | inr some ↦ (some.0, subst (λ (b : ℕ). xs ≡ some.0 ++ b ∷ []) (sym e) some.1)
+    ]

@@ -1,22 +1,41 @@
-use Rattle.std.proofs.Common.{inl, inr, arith, refl}
-use Rattle.offset_queue.proofs.QueueLemmas.{all_places}
-use Rattle.offset_queue.proofs.Steps.{push_place, pushed_changes, pushed_lays}
+use Rattle.std.proofs.Common.{ℕ, ◌≡◌, List, ◌∷◌, refl, inl, inr, sym, ap, subst, ◌∙◌, arith}
+use Rattle.offset_queue.specs.Queue.{head_joint, AreLinked, CanPush}
+use Rattle.offset_queue.specs.Joining.{IsJoint}
+use Rattle.offset_queue.proofs.Chains.{front_of, chain_front}
+use Rattle.offset_queue.proofs.Joints.{joint_room, joint_ends, joint_alone, front_joint, front_found, joins_at}
+use Rattle.offset_queue.proofs.Queues.{Pushes, unpushed, pushed, pushed_changes}
+use Rattle.offset_queue.proofs.calls.push_front.Given as given
 use Rattle.offset_queue.proofs.calls.push_front.Goals as goal
+use Rattle.offset_queue.proofs.calls.push_front.Goals.{After-join-2}
 
-pub overflow_mul-a : goal.overflow_mul-a
-overflow_mul-a g c = omega (arith, c.requires.1.below c.args.b.at (inr (inl refl)), c.requires.1.entries c.args.b.at (inl refl))
+-- it was linked to the new entry, and that to the head
+joined : (g : given.Over) (c : After-join-2 g) (xs : List ℕ) → CanPush (g.B.Blocks.words c.args.blocks.now) c.args.q.now c.args.link c.args.b.at xs →
+    Pushes (g.B.Blocks.words c.args.blocks.now) (g.B.Blocks.words c.join.new.blocks) (g.B.Blocks.words c.join-2.new.blocks) c.args.q.now c.args.link c.args.b.at xs
+joined g c xs h = record {
+  front = joins_at _ _ _ _ _ _ refl (front_found _ _ _ xs _ _ (unpushed _ _ _ _ _ h) c.head_of-head.ensures c.next-front.ensures) c.join.ensures.joins;
+  entry = joins_at _ _ _ _ _ _ c.head_of-head.ensures refl c.join-2.ensures.joins;
+}
 
-pub overflow_add-a : goal.overflow_add-a
-overflow_add-a g c = omega (arith, c.requires.1.below c.args.b.at (inr (inl refl)), c.requires.1.entries c.args.b.at (inl refl))
+pub next-front-requires : goal.next-front-requires
+next-front-requires g c = (c.requires.0, unpushed _ _ _ _ _ c.requires.1, inl c.head_of-head.ensures)
 
-pub set_next-requires : goal.set_next-requires
-set_next-requires g c = (all_places _ _ _ _ c.requires.1).each _ (inr (inl refl))
-
-pub set_prev-requires : goal.set_prev-requires
-set_prev-requires g c = push_place _ _ _ _ _ _ c.requires.0 c.requires.1 c.requires.2 c.next-n.ensures c.set_next.ensures
+pub join-requires : goal.join-requires
+join-requires g c =
+    let q = c.args.q.now in
+    let xs = c.requires.0 in
+    let h = c.requires.1 in
+    let entry : IsJoint q c.args.link (c.args.b.at ∷ xs) (c.args.b.at, c.args.link) = inr (inl refl, refl) in
+    let front = subst (λ (a : ℕ × ℕ). IsJoint q c.args.link (c.args.b.at ∷ xs) a) (sym (front_found _ _ _ xs _ _ (unpushed _ _ _ _ _ h) c.head_of-head.ensures c.next-front.ensures)) (front_joint q c.args.link (c.args.b.at ∷ xs) xs (λ x i. inr i)) in
+    record {
+      first = joint_room _ q c.args.link (c.args.b.at ∷ xs) _ h.room entry;
+      second = joint_room _ q c.args.link (c.args.b.at ∷ xs) _ h.room front;
+      one = joint_alone q c.args.link (c.args.b.at ∷ xs) _ _ h.holds.distinct entry front;
+      first_ends = joint_ends _ q c.args.link (c.args.b.at ∷ xs) _ h.holds entry;
+      second_ends = joint_ends _ q c.args.link (c.args.b.at ∷ xs) _ h.holds front;
+    }
 
 pub returns-clause-lays : goal.returns-clause-lays
-returns-clause-lays g c = λ xs h d. pushed_lays _ _ _ _ c.next-n.result _ _ _ _ xs h d (record { next = c.next-n.ensures; first = c.set_next.ensures; second = c.set_prev.ensures; third = c.set_prev-2.ensures; fourth = c.set_next-2.ensures })
+returns-clause-lays g c = λ xs h. pushed _ _ _ _ _ _ xs h (joined g c xs h)
 
 pub returns-clause-changes : goal.returns-clause-changes
-returns-clause-changes g c = λ xs h d. pushed_changes _ _ _ _ c.next-n.result _ _ _ _ xs h d (record { next = c.next-n.ensures; first = c.set_next.ensures; second = c.set_prev.ensures; third = c.set_prev-2.ensures; fourth = c.set_next-2.ensures })
+returns-clause-changes g c = λ xs h. pushed_changes _ _ _ _ _ _ xs h (joined g c xs h)

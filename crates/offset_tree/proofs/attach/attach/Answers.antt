@@ -12,7 +12,7 @@ pub link-requires-clause-live : goal.link-requires-clause-live
 link-requires-clause-live g c = λ live. omega (arith, gap_room _ _ _ _ _ _ c.requires.there.1 live, c.clear.ensures.clears.lengths c.args.p)
 
 pub returns-clause-shape : goal.returns-clause-shape
-returns-clause-shape g c = λ k h. attached _ _ _ _ _ _ k _ h c.clear.ensures.clears c.link.ensures
+returns-clause-shape g c = λ k h. attached _ _ _ _ _ _ k _ h c.clear.ensures.clears c.link.ensures.does
 
 pub returns-clause-changes : goal.returns-clause-changes
-returns-clause-changes g c = λ k h. attached_changes _ _ _ _ _ _ k _ h c.clear.ensures.clears c.link.ensures
+returns-clause-changes g c = λ k h. attached_changes _ _ _ _ _ _ k _ h c.clear.ensures.clears c.link.ensures.does

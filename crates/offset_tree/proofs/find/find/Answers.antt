@@ -53,7 +53,7 @@ pub unreachable-requires : goal.unreachable-requires
 unreachable-requires g c = omega (arith, search_bound _ _ _ _ _ _ (c.loop-round.invariant _ (drawn _ _ _ c.requires.there.1)).search)
 
 pub sentinel-nil-requires : goal.sentinel-nil-requires
-sentinel-nil-requires g c = ends_of _ _ _ c.requires.there.1.holds
+sentinel-nil-requires g c = ends_of _ _ _ c.requires.there.1.holds c.requires.there.1.room
 
 pub word-at-requires : goal.word-at-requires
-word-at-requires g c = let h = c.requires.there.1.holds.context in omega (arith, h)
+word-at-requires g c = let h = c.requires.there.1.room.context in omega (arith, h)

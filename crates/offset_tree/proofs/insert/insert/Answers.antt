@@ -14,7 +14,7 @@ gap_for-place-requires-clause-there g c =
     (c.requires.there.0, i.tree, can_open _ _ c.args.b.at _ _ _ i c.word-hash.ensures.value)
 
 pub attach-requires-clause-ends : goal.attach-requires-clause-ends
-attach-requires-clause-ends g c = ends_of _ _ _ c.requires.there.1.holds
+attach-requires-clause-ends g c = ends_of _ _ _ c.requires.there.1.holds c.requires.there.1.room
 
 pub attach-requires-clause-there : goal.attach-requires-clause-there
 attach-requires-clause-there g c =
@@ -23,7 +23,7 @@ attach-requires-clause-there g c =
     (o.path, gap_of _ _ _ _ _ _ _ i o)
 
 pub repair-requires-clause-ends : goal.repair-requires-clause-ends
-repair-requires-clause-ends g c = ends_of _ _ _ c.requires.there.1.holds
+repair-requires-clause-ends g c = ends_of _ _ _ c.requires.there.1.holds c.requires.there.1.room
 
 pub repair-requires-clause-there : goal.repair-requires-clause-there
 repair-requires-clause-there g c =

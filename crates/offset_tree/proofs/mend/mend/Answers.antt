@@ -1,10 +1,10 @@
-use Rattle.std.proofs.Common.{arith}
+use Rattle.std.proofs.Common.{arith, refl, ◌∙◌}
 use Rattle.offset_tree.proofs.Frames.{nodes_unchanged, nodes_changed_twice}
 use Rattle.offset_tree.proofs.MendLemmas.{lacking_bound}
 use Rattle.offset_tree.proofs.mend.mend.Goals as goal
 
 pub loop-round-init : goal.loop-round-init
-loop-round-init g c = record { now = λ xs d r. (d, omega arith, r); changes = λ xs d r. nodes_unchanged _ _ xs }
+loop-round-init g c = record { rest = refl; now = λ xs d r. (d, omega arith, r); changes = λ xs d r. nodes_unchanged _ _ xs }
 
 pub mend_step-requires-clause-there : goal.mend_step-requires-clause-there
 mend_step-requires-clause-there g c =
@@ -19,6 +19,7 @@ returns-in-None-clause-changes g c = λ xs d r. let n = c.loop-round.invariant.n
 
 pub loop-round-preserved : goal.loop-round-preserved
 loop-round-preserved g c = record {
+  rest = c.in-Some.ensures.rest ∙ c.loop-round.invariant.rest;
   now = λ xs d r. let n = c.loop-round.invariant.now xs d r in let s = c.in-Some.ensures.goes_on xs n.0 n.2 in (s.0, omega (arith, n.1, s.1), s.2);
   changes = λ xs d r. let n = c.loop-round.invariant.now xs d r in
       nodes_changed_twice _ _ _ _ _ (c.loop-round.invariant.changes xs d r) (c.in-Some.ensures.changes xs n.0 n.2);

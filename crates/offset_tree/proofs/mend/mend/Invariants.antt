@@ -1,4 +1,4 @@
-use Rattle.std.proofs.Common.{ℕ, ◌+◌, ◌≤◌, List}
+use Rattle.std.proofs.Common.{ℕ, ◌≡◌, ◌+◌, ◌≤◌, List}
 use Rattle.offset_tree.specs.Changes.{ChangesNodes}
 use Rattle.offset_tree.specs.Mending.{Lacking}
 use Rattle.offset_tree.proofs.mend.mend.Given as goal
@@ -9,5 +9,6 @@ invariant-loop-round g l =
     let context = l.t.context.at in
     record {
       now : (xs : List ℕ) (d : ℕ) → Lacking (words l.fn.blocks) context l.fn.place.at l.fn.place.parent l.fn.place.side xs d → (e : ℕ) × (e + l.round ≤ d) × Lacking (words l.blocks) context l.lacking.at l.lacking.parent l.lacking.side xs e;
+      rest : g.B.Blocks.rest l.blocks ≡ g.B.Blocks.rest l.fn.blocks;
       changes : (xs : List ℕ) (d : ℕ) → Lacking (words l.fn.blocks) context l.fn.place.at l.fn.place.parent l.fn.place.side xs d → ChangesNodes (words l.fn.blocks) (words l.blocks) context xs;
     }

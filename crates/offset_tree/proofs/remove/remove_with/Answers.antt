@@ -7,7 +7,7 @@ use Rattle.offset_tree.proofs.RemovedLemmas.{removed_tree}
 use Rattle.offset_tree.proofs.remove.remove_with.Goals as goal
 
 pub unlink-requires-clause-ends : goal.unlink-requires-clause-ends
-unlink-requires-clause-ends g c = ends_of _ _ _ c.requires.there.1.holds
+unlink-requires-clause-ends g c = ends_of _ _ _ c.requires.there.1.holds c.requires.there.1.room
 
 pub unlink-requires-clause-there : goal.unlink-requires-clause-there
 unlink-requires-clause-there g c =

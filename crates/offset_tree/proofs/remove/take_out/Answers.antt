@@ -25,29 +25,29 @@ set_parent-requires-clause-live g c =
 pub replace-requires-clause-live : goal.replace-requires-clause-live
 replace-requires-clause-live g c = λ ne.
     let m = g.B.Blocks.words c.args.blocks.now in
-    omega (arith, read_room m _ _ 0 c.parent-p.ensures.value (sided_reads _ _ _ _ _ c.requires.there.1).parent_room ne, parent_length _ _ _ _ _ c.parent-p.result c.set_parent.ensures)
+    omega (arith, read_room m _ _ 0 c.parent-p.ensures.value (sided_reads _ _ _ _ _ c.requires.there.1).parent_room ne, parent_length _ _ _ _ _ c.parent-p.result c.set_parent.ensures.does)
 
 pub mend-requires-clause-there : goal.mend-requires-clause-there
 mend-requires-clause-there g c =
     let o = c.requires.there.1 in
-    let t = taken_out _ _ _ _ _ _ c.other.result c.hole_side-hole.result _ c.child-v.result c.parent-p.result o c.other.ensures c.child-v.ensures.value c.parent-p.ensures.value c.hole_side-hole.ensures c.set_parent.ensures c.replace.ensures.replaces in
+    let t = taken_out _ _ _ _ _ _ c.other.result c.hole_side-hole.result _ c.child-v.result c.parent-p.result o c.other.ensures c.child-v.ensures.value c.parent-p.ensures.value c.hole_side-hole.ensures c.set_parent.ensures.does c.replace.ensures.replaces in
     (c.requires.there.0, _, t.1 (sym (sided_reads _ _ _ _ _ o).colour ∙ (sym c.is_red-red.ensures.value ∙ c.if-not-red.true)))
 
 pub returns-then-not-red-clause-settled : goal.returns-then-not-red-clause-settled
 returns-then-not-red-clause-settled g c = λ xs o.
-    let t = taken_out _ _ _ _ _ _ c.other.result c.hole_side-hole.result _ c.child-v.result c.parent-p.result o c.other.ensures c.child-v.ensures.value c.parent-p.ensures.value c.hole_side-hole.ensures c.set_parent.ensures c.replace.ensures.replaces in
+    let t = taken_out _ _ _ _ _ _ c.other.result c.hole_side-hole.result _ c.child-v.result c.parent-p.result o c.other.ensures c.child-v.ensures.value c.parent-p.ensures.value c.hole_side-hole.ensures c.set_parent.ensures.does c.replace.ensures.replaces in
     c.mend.ensures.settled xs _ (t.1 (sym (sided_reads _ _ _ _ _ o).colour ∙ (sym c.is_red-red.ensures.value ∙ c.if-not-red.true)))
 
 pub returns-then-not-red-clause-changes : goal.returns-then-not-red-clause-changes
 returns-then-not-red-clause-changes g c = λ xs o.
-    let t = taken_out _ _ _ _ _ _ c.other.result c.hole_side-hole.result _ c.child-v.result c.parent-p.result o c.other.ensures c.child-v.ensures.value c.parent-p.ensures.value c.hole_side-hole.ensures c.set_parent.ensures c.replace.ensures.replaces in
+    let t = taken_out _ _ _ _ _ _ c.other.result c.hole_side-hole.result _ c.child-v.result c.parent-p.result o c.other.ensures c.child-v.ensures.value c.parent-p.ensures.value c.hole_side-hole.ensures c.set_parent.ensures.does c.replace.ensures.replaces in
     nodes_changed_twice _ _ _ _ _ t.2 (c.mend.ensures.changes xs _ (t.1 (sym (sided_reads _ _ _ _ _ o).colour ∙ (sym c.is_red-red.ensures.value ∙ c.if-not-red.true))))
 
 pub returns-else-not-red-clause-settled : goal.returns-else-not-red-clause-settled
 returns-else-not-red-clause-settled g c = λ xs o.
-    let t = taken_out _ _ _ _ _ _ c.other.result c.hole_side-hole.result _ c.child-v.result c.parent-p.result o c.other.ensures c.child-v.ensures.value c.parent-p.ensures.value c.hole_side-hole.ensures c.set_parent.ensures c.replace.ensures.replaces in
+    let t = taken_out _ _ _ _ _ _ c.other.result c.hole_side-hole.result _ c.child-v.result c.parent-p.result o c.other.ensures c.child-v.ensures.value c.parent-p.ensures.value c.hole_side-hole.ensures c.set_parent.ensures.does c.replace.ensures.replaces in
     t.0 (sym (sided_reads _ _ _ _ _ o).colour ∙ (sym c.is_red-red.ensures.value ∙ c.if-not-red.false))
 
 pub returns-else-not-red-clause-changes : goal.returns-else-not-red-clause-changes
 returns-else-not-red-clause-changes g c = λ xs o.
-    (taken_out _ _ _ _ _ _ c.other.result c.hole_side-hole.result _ c.child-v.result c.parent-p.result o c.other.ensures c.child-v.ensures.value c.parent-p.ensures.value c.hole_side-hole.ensures c.set_parent.ensures c.replace.ensures.replaces).2
+    (taken_out _ _ _ _ _ _ c.other.result c.hole_side-hole.result _ c.child-v.result c.parent-p.result o c.other.ensures c.child-v.ensures.value c.parent-p.ensures.value c.hole_side-hole.ensures c.set_parent.ensures.does c.replace.ensures.replaces).2

@@ -1,6 +1,6 @@
 use Rattle.std.proofs.Common.{◌≡◌, Some, arith}
 use Rattle.std.proofs.lemmas.Grind.{common_steps}
-use Rattle.slab_model.specs.Parts.{slab_of}
+use Rattle.slab_model.specs.Inside.{slab_of}
 use Rattle.slab_model.specs.Runs.{first_fit}
 use Rattle.slab_model.proofs.ClassLemmas.{cuts}
 use Rattle.slab_model.proofs.Bounds.{small_stat, small_runs, fit_in}
@@ -17,7 +17,7 @@ block_at-block-requires-clause-page c =
 
 pub block_at-block-requires-clause-index : goal.block_at-block-requires-clause-index
 block_at-block-requires-clause-index c =
-    let k = cuts c.args.class c.requires.class in
+    let k = cuts c.args.parts.now.shape c.args.class c.requires.class in
     omega (arith, k.sum, k.many, k.two, c.first_index-index.ensures)
 
 pub index_mut-requires-2 : goal.index_mut-requires-2
@@ -28,7 +28,7 @@ index_mut-requires-2 c =
 
 pub count_grant-requires-clause-total : goal.count_grant-requires-clause-total
 count_grant-requires-clause-total c =
-    let k = cuts c.args.class c.requires.class in
+    let k = cuts c.args.parts.now.shape c.args.class c.requires.class in
     let small = small_stat (slab_of c.args.parts.now) c.args.class c.requires.sound c.requires.class in
     grind (arith, common_steps, k.sum, k.many, small.total)
 

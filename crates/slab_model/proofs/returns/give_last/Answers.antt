@@ -1,6 +1,7 @@
 use Rattle.std.proofs.Common.{arith}
-use Rattle.slab_model.specs.Parts.{slab_of}
-use Rattle.slab_model.specs.Slab.{page_at, used_in}
+use Rattle.slab_model.specs.Inside.{slab_of}
+use Rattle.slab_model.specs.State.{page_at}
+use Rattle.slab_model.specs.Blocks.{used_in}
 use Rattle.slab_model.proofs.Bounds.{small_runs, class_page}
 use Rattle.slab_model.proofs.returns.give_last.Goals as goal
 

@@ -1,5 +1,5 @@
 use Rattle.std.proofs.Common.{arith}
-use Rattle.slab_model.specs.Parts.{slab_of}
+use Rattle.slab_model.specs.Inside.{slab_of}
 use Rattle.slab_model.proofs.Bounds.{small_runs, run_in}
 use Rattle.slab_model.proofs.returns.give_pages.Goals as goal
 

@@ -1,7 +1,8 @@
 use Rattle.std.proofs.Common.{refl}
 use Rattle.slab_model.specs.Geometry.{start_of, pages_of, most_pages, class_of, class_size, pages_for, blocks_in_page, first_index, usable_blocks}
 use Rattle.slab_model.specs.Rows.{ZonesRow, NodesRow, SmallRow, LargeRow, RunsRow, MergeRow}
-use Rattle.slab_model.specs.Slab.{grant, give_back}
+use Rattle.slab_model.specs.Grant.{grant}
+use Rattle.slab_model.specs.Return.{give_back}
 use Rattle.slab_model.proofs.theorems.worked_rows.Goals as goal
 
 zones_row : ZonesRow

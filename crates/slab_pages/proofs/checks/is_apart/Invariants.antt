@@ -1,7 +1,8 @@
 use Rattle.std.proofs.Common.{ℕ, List}
 use Rattle.slab_model.specs.declared.runs.Run.{Run}
-use Rattle.slab_pages.specs.Steps.{LaysList, IsClearOfFree}
+use Rattle.slab_pages.specs.Steps.{LaysList}
+use Rattle.slab_pages.proofs.WalkLemmas.{Passes}
 use Rattle.slab_pages.proofs.checks.is_apart.Given as goal
 
-abbrev pub invariant-loop-page : goal.invariant-loop-page
-invariant-loop-page l = (count : ℕ) (runs : List Run) → LaysList count l.region runs → IsClearOfFree runs l.first l.page
+abbrev pub invariant-loop-step : goal.invariant-loop-step
+invariant-loop-step l = (count : ℕ) (runs : List Run) → LaysList count l.region runs → Passes count l.first l.n l.step l.region l.o runs

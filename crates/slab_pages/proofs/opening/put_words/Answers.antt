@@ -1,10 +1,11 @@
 use Rattle.std.proofs.Common.{ℕ, ◌≡◌, ◌+◌, suc, take, set, get_or, length, sym, ap, subst, arith, ◌∙◌}
+use Rattle.slab_pages.specs.Places.{descriptor_word}
 use Rattle.slab_pages.specs.Opening.{put_all}
 use Rattle.slab_pages.proofs.OpeningLemmas.{length-put, below-at, put-next}
 use Rattle.slab_pages.proofs.opening.put_words.Goals as goal
 
 pub store-requires : goal.store-requires
-store-requires c = omega (arith, below-at 88 c.args.entries.now c.loop-w.w-index c.requires.within c.loop-w-test.true, ap (λ ws. length ws) c.loop-w.invariant, length-put (take c.loop-w.w-index c.args.entries.now) c.args.region.now)
+store-requires c = omega (arith, below-at (descriptor_word 0) c.args.entries.now c.loop-w.w-index c.requires.within c.loop-w-test.true, ap (λ ws. length ws) c.loop-w.invariant, length-put (take c.loop-w.w-index c.args.entries.now) c.args.region.now)
 
 pub loop-w-preserved : goal.loop-w-preserved
 loop-w-preserved c =

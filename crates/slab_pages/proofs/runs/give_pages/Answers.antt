@@ -2,7 +2,7 @@ use Rattle.std.proofs.Common.{◌≡◌, ◌+◌, ◌-◌, get_or, ap, arith, in
 use Rattle.slab_model.specs.declared.runs.Run.{Run}
 use Rattle.slab_model.specs.Runs.{page_total, give_run}
 use Rattle.slab_model.proofs.RunLemmas.{page_total-give, AreSound-give}
-use Rattle.slab_pages.specs.Places.{pfree}
+use Rattle.slab_pages.specs.Places.{pfree_word}
 use Rattle.slab_pages.specs.Steps.{without_run}
 use Rattle.slab_pages.proofs.GiveLemmas.{given_clear, given_after, given_before, uncovered_without, merges, given, page_total-le}
 use Rattle.slab_pages.proofs.runs.give_pages.Goals as goal
@@ -64,7 +64,7 @@ overflow_add-free c =
     let d = c.detach_after-after.ensures w.0 (given_clear c.args.count c.args.first c.args.n w.0 _ _ w.1 w.2 c.fill.ensures) (given_after c.args.count c.args.first c.args.n w.0 _ _ w.1 w.2 c.fill.ensures) in
     let e = c.detach_before-before.ensures c.args.count (without_run (c.args.first + c.args.n) w.0) d.laid (given_before c.args.count c.args.first c.args.n w.0 _ _ _ _ w.1 w.2 c.fill.ensures d) (uncovered_without w.0 (c.args.first + c.args.n) c.args.first (w.2.used c.args.first (omega arith) (omega (arith, w.2.some)))) in
     let m = merges c.args.count c.args.first c.args.n w.0 _ _ _ _ _ _ w.1 w.2 c.fill.ensures d e.0 e.1 in
-    let is : c.load-free.result ≡ page_total w.0 = c.load-free.ensures ∙ (c.add_run.ensures c.args.count _ m.laid m.cleared).free ∙ e.1.free ∙ d.free ∙ c.fill.ensures.others pfree (inl (omega arith)) ∙ w.3 in
+    let is : c.load-free.result ≡ page_total w.0 = c.load-free.ensures ∙ (c.add_run.ensures c.args.count _ m.laid m.cleared).free ∙ e.1.free ∙ d.free ∙ c.fill.ensures.others pfree_word (inl (omega arith)) ∙ w.3 in
     omega (arith, is, page_total-give c.args.count run w.0 w.1.sound, page_total-le c.args.count (give_run run w.0) (AreSound-give c.args.count run w.0 w.2.some w.2.within w.2.used w.1.sound), w.1.small)
 
 pub store-requires : goal.store-requires
@@ -81,5 +81,5 @@ returns c = λ runs h used counted.
     let e = c.detach_before-before.ensures c.args.count (without_run (c.args.first + c.args.n) runs) d.laid (given_before c.args.count c.args.first c.args.n runs _ _ _ _ h used c.fill.ensures d) (uncovered_without runs (c.args.first + c.args.n) c.args.first (used.used c.args.first (omega arith) (omega (arith, used.some)))) in
     let m = merges c.args.count c.args.first c.args.n runs _ _ _ _ _ _ h used c.fill.ensures d e.0 e.1 in
     let re = c.add_run.ensures c.args.count (without_run (c.args.first - c.detach_before-before.result) (without_run (c.args.first + c.args.n) runs)) m.laid m.cleared in
-    let is : c.load-free.result ≡ get_or c.args.region.now pfree 0 = c.load-free.ensures ∙ re.free ∙ e.1.free ∙ d.free ∙ c.fill.ensures.others pfree (inl (omega arith)) in
+    let is : c.load-free.result ≡ get_or c.args.region.now pfree_word 0 = c.load-free.ensures ∙ re.free ∙ e.1.free ∙ d.free ∙ c.fill.ensures.others pfree_word (inl (omega arith)) in
     given c.args.count c.args.first c.args.n runs _ _ _ _ _ _ c.detach_after-after.result c.detach_before-before.result (c.load-free.result + c.args.n) h used c.fill.ensures d e.1 m re c.store.ensures (ap (λ k. k + c.args.n) is)

@@ -1,6 +1,6 @@
 use Rattle.std.proofs.Common.{ℕ, ◌≡◌, ◌-◌, ◌+◌, true, length, take, subst, sym, ap, ◌∙◌, arith, List}
 use Rattle.req_zone.specs.Table.{Entry}
-use Rattle.req_zone.specs.Memory.{State}
+use Rattle.req_zone.specs.State.{State}
 use Rattle.req_zone.specs.Calls.{Reply}
 use Rattle.req_zone.specs.Calls.Reply.{pass}
 use Rattle.req_zone.specs.Leaving.{leaving_in_all}

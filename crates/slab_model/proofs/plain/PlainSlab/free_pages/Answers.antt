@@ -1,4 +1,4 @@
-use Rattle.slab_model.specs.Parts.{slab_of}
+use Rattle.slab_model.specs.Inside.{slab_of}
 use Rattle.slab_model.proofs.PlainLemmas.{few_free}
 use Rattle.slab_model.proofs.plain.PlainSlab.free_pages.Goals as goal
 

@@ -1,6 +1,7 @@
 use Rattle.std.proofs.Common.{sym, subst}
-use Rattle.slab_model.specs.Parts.{slab_of}
-use Rattle.slab_model.specs.Slab.{Slab, IsLive}
+use Rattle.slab_model.specs.Inside.{slab_of}
+use Rattle.slab_model.specs.State.{Slab}
+use Rattle.slab_model.specs.Blocks.{IsLive}
 use Rattle.slab_model.proofs.PlainLemmas.{sound_after_return}
 use Rattle.slab_model.proofs.plain.PlainSlab.give_back.Goals as goal
 

@@ -1,0 +1,5 @@
+use Rattle.zone_key.proofs.Printed.{printed-spells}
+use Rattle.zone_key.proofs.laws.printed_reads_back.Goals as goal
+
+pub returns : goal.returns
+returns c = printed-spells
