@@ -31,5 +31,6 @@ pub returns-clause-begins : goal.returns-clause-begins
 returns-clause-begins g c =
     let i = c.loop-number.invariant in
     let o = g.S.ZoneObject in
-    begins_of o.is_quiet o.lays o.reply_of o.state_after o.permits c.args.object _ _ _ _ _ c.put.ensures.put ? ?
+    let j = c.in_ok-journal.ensures.parts in
+    begins_of o.is_quiet o.lays o.reply_of o.state_after o.permits c.args.object _ _ _ _ _ c.put.ensures.put (ap (λ t. t.log) c.new-2.ensures ∙ ap (λ j. j.log) j) (ap (λ t. t.object) c.new-2.ensures ∙ ap (λ j. j.object) j)
     (λ k lt. i.made k (omega (arith, c.loop-number-test.false)))
