@@ -18,8 +18,10 @@ use zone_outside::NoMemory;
 /// A zone that threads share: one object in one turn, and the log of all calls. Contracts see which zone it is.
 ///
 /// A pass makes calls, each in the zone's turn, which it takes and gives back. What a pass has seen is the beginning of
-/// one legal and well-formed history, in which its own calls stand once and in its order. Between passes that never met
-/// there is no order that a caller can know.
+/// one legal and well-formed history, in which its own calls stand once and in its order. Whenever the turn is free, its
+/// object lays out the state after that history. Between passes that never met there is no order that a caller can know,
+/// and no call is promised to return: while another pass has the turn, the thread yields its processor, to the thread that
+/// has it among others, and then looks again.
 #[derive(Drop)]
 pub struct SharedZone<S: ZoneObject> {
     queue: Queue<S>,
@@ -53,7 +55,7 @@ fn put<S: ZoneObject, R: Wait>(rt: &R, queue: &Queue<S>, seat: &mut Seat<S>, tur
     }
 }
 
-// Takes the turn. A pass that finds it out leaves the processor to other threads before it looks again.
+// Takes the turn. A thread that finds it out yields its processor to other threads before it looks again.
 fn take<S: ZoneObject, R: Wait>(rt: &R, queue: &Queue<S>, seat: &mut Seat<S>) -> Turn<S>
     requires seat { IsPassOf queue.now seat.old }
     requires live { (view seat.old).live ≡ true }
@@ -133,8 +135,8 @@ impl<S: ZoneObject> SharedZone<S> {
     ghost use Rattle.shared_zone.specs.Callers.{Zone, Caller, StartsWith, longer, made, HasRoom, IsSameCaller, Begins, IsHistoryOf};
 
     /// Opens a zone with the object as it is, and with a pass for each of the rooms: pass number k has room for
-    /// `rooms[k]` calls. The journal's memory is taken here. It fails only where there is no memory, and then the object
-    /// has been dropped.
+    /// `rooms[k]` calls. The memory for all their entries is taken here, and no other call takes any. It fails only where
+    /// there is no memory, and then the object has been dropped. Nobody waits here, since nobody else has the zone yet.
     pub fn open<R: Wait>(
         rt: &R,
         alloc: Global,
@@ -164,8 +166,9 @@ impl<S: ZoneObject> SharedZone<S> {
         Ok((SharedZone { queue }, passes))
     }
 
-    /// Makes a call in the zone's turn. The history that the pass has then seen begins with all that it had seen, and ends
-    /// with this call and its reply.
+    /// Makes a call in the zone's turn, for which it may wait. The history that the pass has then seen is legal, begins with
+    /// all that it had seen, and ends with this call and its reply. Of the pass's own calls it has the earlier ones and
+    /// this one.
     pub fn call<R: Wait>(&self, rt: &R, pass: &mut Pass<S>, call: S::Call) -> S::Reply
         requires zone { pass.old.zone.id ≡ self.now }
         requires room { HasRoom pass.old }
@@ -181,7 +184,7 @@ impl<S: ZoneObject> SharedZone<S> {
         reply
     }
 
-    /// A copy of what the pass has seen.
+    /// A copy of what the pass has seen, for another pass to meet. It changes nothing that the pass has seen.
     pub fn note(&self, pass: &mut Pass<S>) -> Note<S>
         requires zone { pass.old.zone.id ≡ self.now }
         ensures pass { pass.new ≡ pass.old }
@@ -192,7 +195,8 @@ impl<S: ZoneObject> SharedZone<S> {
         }
     }
 
-    /// The pass has then seen the longer of what it had seen and what the note's pass had seen; the other begins it.
+    /// The pass has then seen the longer of what it had seen and what the note's pass had seen; the other begins it. Its
+    /// own calls are as before.
     pub fn meet(&self, pass: &mut Pass<S>, note: Note<S>)
         requires zone { pass.old.zone.id ≡ self.now }
         requires note { note.zone.id ≡ self.now }
@@ -206,8 +210,9 @@ impl<S: ZoneObject> SharedZone<S> {
         self.queue.learn_as::<Meeting>(&mut pass.seat);
     }
 
-    /// Ends the zone: the object, and the whole history, oldest entry first. It begins with what each of the passes has
-    /// seen, has just that pass's calls of its number, and has no caller without a room.
+    /// Ends the zone, in its turn, for which it may wait: the object, and the whole history, oldest entry first, which the
+    /// object has run from the zone's start. The history begins with what each of the passes has seen, has of each number
+    /// just the calls of the pass of that number, and has no caller without a room.
     pub fn close<R: Wait>(self, rt: &R, passes: Vec<Pass<S>>) -> (S, Vec<Entry<S>>)
         requires some { 0 < vec_len passes }
         requires zone { (zone : Zone S.State) × (zone.id ≡ self) × All (λ pass. pass.zone ≡ zone) passes.items }
