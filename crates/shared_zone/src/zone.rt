@@ -19,9 +19,9 @@ use zone_outside::NoMemory;
 ///
 /// A pass makes calls, each in the zone's turn, which it takes and gives back. What a pass has seen is the beginning of
 /// one legal and well-formed history, in which its own calls stand once and in its order. Whenever the turn is free, its
-/// object lays out the state after that history. Between passes that never met there is no order that a caller can know,
-/// and no call is promised to return: while another pass has the turn, the thread yields its processor, to the thread that
-/// has it among others, and then looks again.
+/// object lays out the state after that history. Between passes that never met there is no order that a caller can know.
+/// While another pass has the turn, a thread yields its processor each time before it looks again, so that the thread
+/// with the turn can run. That a waiting call returns is not promised.
 #[derive(Drop)]
 pub struct SharedZone<S: ZoneObject> {
     queue: Queue<S>,
