@@ -11,7 +11,6 @@ use Rattle.zone_counters.specs.CountingLaws.{start-law}
 use Rattle.shared_zone.specs.Callers.{ZoneId, Caller, newcomer, Begins, HasRunOf}
 use Rattle.shared_tests.specs.Rounds.{home, MayGo}
 
-
 pub all_may_go : (counters : Counters) (id : ZoneId) (passes : List (Caller CounterState Made)) → Lays counters (opened 2) → AreZero (opened 2) → length passes ≡ 16 → Begins AreZero Lays counters id (replicate 16 64) passes → All (MayGo (home id) 32) passes
 all_may_go counters id passes laid zero count b k d lt =
     let start : b.start ≡ opened 2 = start-law counters b.start (opened 2) b.laid laid b.quiet zero in
