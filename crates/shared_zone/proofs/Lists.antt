@@ -122,6 +122,11 @@ module _ {V : Type 0} where
       ⊎_elim (λ (x : get_elem? views j ≡ some u). all j u x)
       (λ (x : (j ≡ length views) × (w ≡ u)). subst (λ (y : ℕ × V). F y.0 y.1) (λ i. (sym x.0 i, x.1 i)) mine) (at_more views w u j e)
 
+  pub at_here : (l : List V) (i : ℕ) (a b : V) → get_elem? l i ≡ some a → get_elem? (set l i b) i ≡ some b
+  at_here [] i a b e = absurd (some-ne-none a (sym e))
+  at_here (x ∷ xs) zero a b e = refl
+  at_here (x ∷ xs) (suc i) a b e = at_here xs i a b e
+
   pub at_one : (a b : V) (j : ℕ) → get_elem? (a ∷ []) j ≡ some b → a ≡ b
   at_one a b zero e = some-injective a b e
   at_one a b (suc j) e = absurd (some-ne-none b (sym e))

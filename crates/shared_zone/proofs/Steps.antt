@@ -6,14 +6,15 @@ use Rattle.std.proofs.Math.ListN.{length-set}
 use mathlib.Core.Option.{some, some-injective, some-ne-none}
 use lib.ListN.{get_elem?}
 use Rattle.crossbeam_queue.specs.Fifo.{Pushes, Pops, Forks, Merges, Learns}
-use Rattle.crossbeam_queue.proofs.Lists.{at_set}
+use Rattle.crossbeam_queue.proofs.Lists.{at_set, at_longer, set_else}
 use Rattle.zone_object.specs.declared.object.Entry.{Entry}
 use Rattle.zone_object.specs.History.{own}
 use Rattle.zone_object.proofs.Own.{own-snoc_other}
 use Rattle.shared_zone.specs.declared.rule.View.{View}
 use Rattle.shared_zone.specs.Callers.{StartsWith, longer}
-use Rattle.shared_zone.specs.Rule.{Carried, Plan, Within, Lives, Ended, Holds, Knows, Lies, Sees, AllSee, IsOpen, blank, spent, InTurn, opener, Opens, taker, giver, Takes, maker, made_by, noted, meeter, Meets, ender, Closes}
-use Rattle.shared_zone.proofs.Lists.{either_le, all_nil, all_cons, starts_refl, starts_nil, starts_more, starts_both, longer_cases, Each, each_set, each_more, at_one, own_between}
+use Rattle.shared_zone.specs.Rule.{Carried, Plan, Within, Lives, Ended, Holds, Knows, Lies, Sees, AllSee, IsOut, IsOpen, blank, spent, InTurn, opener, Opens, taker, giver, Takes, maker, made_by, noted, meeter, Meets, ender, Closes}
+use Rattle.shared_zone.proofs.Lists.{either_le, all_nil, all_cons, starts_refl, starts_nil, starts_more, starts_both, longer_cases, Each, each_set, each_more, at_here, at_one, own_between}
+use Rattle.shared_zone.proofs.Rooms.{same_or}
 
 -- the places of the passes once the pass n has the place i
 reseat : (ℕ → ℕ) → ℕ → ℕ → ℕ → ℕ
@@ -33,6 +34,17 @@ module _ {X St C R : Type 0} (Good : St → Carried X (Entry X St C R) → Type 
   not_blank v s views place start is at =
       let e : blank ≡ v = at_one blank v place (ap (λ l. get_elem? l place) (sym is) ∙ at) in
       let f : None ≡ Some s = ap (λ (u : View X St C R). u.start) e ∙ start in cc
+
+  -- a view that is set has the turn if the one before had it
+  out_set : (keeper : ℕ) (views : List (View X St C R)) (place : ℕ) (v w : View X St C R) → get_elem? views place ≡ some v → w.holding ≡ v.holding → IsOut keeper views → IsOut keeper (set views place w)
+  out_set keeper views place v w at same out =
+      ⊎_elim (λ (e : keeper ≡ place).
+      let v_is : v ≡ out.0 = some-injective v out.0 (sym at ∙ ap (λ k. get_elem? views k) (sym e) ∙ out.1) in
+      (w, subst (λ k. get_elem? (set views place w) k ≡ some w) (sym e) (at_here views place v w at), same ∙ ap (λ (u : View X St C R). u.holding) v_is ∙ out.2))
+      (λ (e : keeper ≢ place). (out.0, set_else views place keeper w e ∙ out.1, out.2)) (same_or keeper place)
+
+  out_more : (keeper : ℕ) (views : List (View X St C R)) (w : View X St C R) → IsOut keeper views → IsOut keeper (views ++ w ∷ [])
+  out_more keeper views w out = (out.0, at_longer views (w ∷ []) keeper out.0 out.1, out.2)
 
   pub takes : (place : ℕ) (v : View X St C R) (s : St) → v.start ≡ Some s → v.live ≡ true → Pops (InTurn Good) place v (Takes Good v)
   takes place v s is live x items views (inl h) at = let e = h.0 in absurd cc
@@ -73,7 +85,7 @@ module _ {X St C R : Type 0} (Good : St → Carried X (Entry X St C R) → Type 
         };
       }) in (
         w,
-        subst (λ i. InTurn Good i (set views place w)) (sym o.lies.1) (inr (record { plan = q; lies = tt; within = o.within; early = o.early; see = all })),
+        subst (λ i. InTurn Good i (set views place w)) (sym o.lies.1) (inr (record { plan = q; lies = (w, at_here views place v w at, refl); within = o.within; early = o.early; see = all })),
         record {
           view = refl;
           good = λ t at_t. subst (λ u. Good u x) (sym ((o.see place v at).knows t at_t).start_is) rest.good;
@@ -186,9 +198,10 @@ module _ {X St C R : Type 0} (Good : St → Carried X (Entry X St C R) → Type 
   pub begins : InTurn Good [] (blank ∷ [])
   begins = inl (refl, refl)
 
-  lies_same : (p : Plan St (Entry X St C R)) (seat : ℕ → ℕ) (next : ℕ) (items : List (Carried X (Entry X St C R))) → Lies Good p items → Lies Good (record p { seat = seat; next = next }) items
-  lies_same p seat next [] l = l
-  lies_same p seat next (x ∷ xs) l = (record { rooms = l.0.rooms; log = l.0.log; good = l.0.good }, l.1)
+  -- the turn lies where it lay, whatever becomes of the views of passes that don't have it
+  lies_same : (p : Plan St (Entry X St C R)) (seat : ℕ → ℕ) (next : ℕ) (items : List (Carried X (Entry X St C R))) (old new : List (View X St C R)) → (IsOut p.keeper old → IsOut p.keeper new) → Lies Good p items old → Lies Good (record p { seat = seat; next = next }) items new
+  lies_same p seat next [] old new out l = out l
+  lies_same p seat next (x ∷ xs) old new out l = (record { rooms = l.0.rooms; log = l.0.log; good = l.0.good }, l.1)
 
   pub makes : (place : ℕ) (v : View X St C R) (s : St) (n : ℕ) → v.start ≡ Some s → v.holding ≡ false → v.next ≡ Some n → Forks (InTurn Good) place v (maker v) (made_by v)
   makes place v s n is calm next_is items views h at =
@@ -251,7 +264,7 @@ module _ {X St C R : Type 0} (Good : St → Carried X (Entry X St C R) → Type 
       } in
       inr (record {
         plan = q;
-        lies = lies_same p seat' (p.next + 1) items o.lies;
+        lies = lies_same p seat' (p.next + 1) items views (views' ++ right ∷ []) (λ out. out_more p.keeper views' right (out_set p.keeper views place v left at refl out)) o.lies;
         within = o.within;
         early = λ who late. o.early who (omega arith);
         see = each_more (λ j u. Sees q items j u) views' right others new;
@@ -276,13 +289,19 @@ module _ {X St C R : Type 0} (Good : St → Carried X (Entry X St C R) → Type 
           holds = λ h. absurd (true≢false (sym h));
         };
       } in
-      inr (record { plan = p; lies = o.lies; within = o.within; early = o.early; see = each_more (λ j u. Sees p items j u) views' (noted v) others new })
+      inr (record {
+        plan = p;
+        lies = lies_same p p.seat p.next items views (views' ++ noted v ∷ []) (λ out. out_more p.keeper views' (noted v) (out_set p.keeper views place v v at refl out)) o.lies;
+        within = o.within;
+        early = o.early;
+        see = each_more (λ j u. Sees p items j u) views' (noted v) others new;
+      })
 
   -- two views become one: the first one sees what it is shown to see, and the second knows nothing
   merged : (items : List (Carried X (Entry X St C R))) (views : List (View X St C R)) (place other : ℕ) (v w both : View X St C R)
-      → (o : IsOpen Good items views) → ¬ (other ≡ place) → get_elem? (set views place both) other ≡ some w
+      → (o : IsOpen Good items views) → get_elem? views place ≡ some v → both.holding ≡ v.holding → ¬ (other ≡ place) → get_elem? (set views place both) other ≡ some w → w.holding ≡ false
       → (get_elem? views other ≡ some w → Sees o.plan items place both) → InTurn Good items (set (set views place both) other spent)
-  merged items views place other v w both o apart at_w sees =
+  merged items views place other v w both o at as_before apart at_w calm sees =
       let p = o.plan in
       let was : get_elem? views other ≡ some w = ⊎_elim (λ (x : (other ≡ place) × (both ≡ w)). absurd (apart x.0)) (λ (x : (other ≢ place) × (get_elem? views other ≡ some w)). x.1) (at_set views place other both w at_w) in
       let mine : Sees p items other spent = record {
@@ -290,14 +309,20 @@ module _ {X St C R : Type 0} (Good : St → Carried X (Entry X St C R) → Type 
         knows = λ t at_t. let e : None ≡ Some t = at_t in absurd cc;
       } in
       let one : AllSee p items (set views place both) = each_set (λ j u. Sees p items j u) views place both (sees was) (λ j u other e. o.see j u e) in
-      inr (record { plan = p; lies = o.lies; within = o.within; early = o.early; see = each_set (λ j u. Sees p items j u) (set views place both) other spent mine (λ j u differs e. one j u e) })
+      inr (record {
+        plan = p;
+        lies = lies_same p p.seat p.next items views (set (set views place both) other spent) (λ out. out_set p.keeper (set views place both) other w spent at_w (sym calm) (out_set p.keeper views place v both at as_before out)) o.lies;
+        within = o.within;
+        early = o.early;
+        see = each_set (λ j u. Sees p items j u) (set views place both) other spent mine (λ j u differs e. one j u e);
+      })
 
-  pub meets : (place : ℕ) (v : View X St C R) (other : ℕ) (w : View X St C R) (s t : St) → v.start ≡ Some s → w.start ≡ Some t → v.holding ≡ false → Merges (InTurn Good) place v other w (meeter v w) spent
-  meets place v other w s t is is' calm items views h at apart at_w =
+  pub meets : (place : ℕ) (v : View X St C R) (other : ℕ) (w : View X St C R) (s t : St) → v.start ≡ Some s → w.start ≡ Some t → v.holding ≡ false → w.holding ≡ false → Merges (InTurn Good) place v other w (meeter v w) spent
+  meets place v other w s t is is' calm calm' items views h at apart at_w =
       let o = held items views place v s is h at in
       let p = o.plan in
       let both : View X St C R = meeter v w in
-      merged items views place other v w both o apart at_w
+      merged items views place other v w both o at refl apart at_w calm'
       (λ was. record {
         spent = λ none. let e : Some s ≡ None = sym is ∙ none in absurd cc;
         knows = λ r at_r. let z = (o.see place v at).knows r at_r in
@@ -329,12 +354,12 @@ module _ {X St C R : Type 0} (Good : St → Carried X (Entry X St C R) → Type 
         own_is = sym a.seen ∙ a.before;
       }
 
-  pub ends : (place : ℕ) (v : View X St C R) (other : ℕ) (w : View X St C R) (s t : St) → v.start ≡ Some s → w.start ≡ Some t → v.holding ≡ true → w.live ≡ true → Merges (InTurn Good) place v other w (ender v w) spent
-  ends place v other w s t is is' holding live items views h at apart at_w =
+  pub ends : (place : ℕ) (v : View X St C R) (other : ℕ) (w : View X St C R) (s t : St) → v.start ≡ Some s → w.start ≡ Some t → v.holding ≡ true → w.live ≡ true → w.holding ≡ false → Merges (InTurn Good) place v other w (ender v w) spent
+  ends place v other w s t is is' holding live calm items views h at apart at_w =
       let o = held items views place v s is h at in
       let p = o.plan in
       let both : View X St C R = ender v w in
-      merged items views place other v w both o apart at_w
+      merged items views place other v w both o at refl apart at_w calm
       (λ was. record {
         spent = λ none. let e : Some s ≡ None = sym is ∙ none in absurd cc;
         knows = λ r at_r. let z = (o.see place v at).knows r at_r in

@@ -63,6 +63,10 @@ module _ {X St C R : Type 0} where
     pub spent : v.start ≡ None → v.live ≡ false
     pub knows : (start : St) → v.start ≡ Some start → Knows p items place v start
 
+  -- the pass at this place has the turn
+  abbrev pub IsOut : ℕ → List (View X St C R) → Type 0
+  IsOut keeper views = (v : View X St C R) × (get_elem? views keeper ≡ some v) × (v.holding ≡ true)
+
   abbrev pub AllSee : Plan St (Entry X St C R) → List (Carried X (Entry X St C R)) → List (View X St C R) → Type 0
   AllSee p items views = (place : ℕ) (v : View X St C R) → get_elem? views place ≡ some v → Sees p items place v
 
@@ -73,15 +77,15 @@ module _ {X St C R : Type 0} where
       pub log : x.log ≡ p.log
       pub good : Good p.start x
 
-    -- it lies there alone, or it is out
-    abbrev pub Lies : Plan St (Entry X St C R) → List (Carried X (Entry X St C R)) → Type 0
-    Lies p [] = Unit {0}
-    Lies p (x ∷ xs) = Rests p x × (xs ≡ [])
+    -- it lies there alone, or a pass has it
+    abbrev pub Lies : Plan St (Entry X St C R) → List (Carried X (Entry X St C R)) → List (View X St C R) → Type 0
+    Lies p [] views = IsOut p.keeper views
+    Lies p (x ∷ xs) views = Rests p x × (xs ≡ [])
 
     -- a zone that has been opened
     pub record IsOpen (items : List (Carried X (Entry X St C R))) (views : List (View X St C R)) : Type 0 where
       pub plan : Plan St (Entry X St C R)
-      pub lies : Lies plan items
+      pub lies : Lies plan items views
       pub within : Within plan.rooms plan.log
       pub early : (who : ℕ) → plan.next ≤ who → own plan.log who ≡ []
       pub see : AllSee plan items views

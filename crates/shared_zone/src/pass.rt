@@ -29,7 +29,7 @@ pub struct Note<S: ZoneObject> {
 }
 
 impl<S: ZoneObject> Model for Note<S> {
-    ghost use Rattle.std.specs.Prelude.{◌≡◌, [], Some};
+    ghost use Rattle.std.specs.Prelude.{◌≡◌, false, [], Some};
     ghost use Rattle.crossbeam_queue.specs.Passes.{view as known};
     ghost use Rattle.zone_object.specs.declared.object.Entry.{Entry};
     ghost use Rattle.shared_zone.specs.Callers.{Sight};
@@ -38,5 +38,5 @@ impl<S: ZoneObject> Model for Note<S> {
 
     ghost view = { λ n. record { zone = record { id = record { table = n.seat.table_id }; start = (known n.seat).start; rooms = (known n.seat).rooms }; seen = (known n.seat).seen } };
 
-    ghost invariant = { λ n. (n.seat.me.1 ≡ []) × ((start : S.State) × ((known n.seat).start ≡ Some start)) };
+    ghost invariant = { λ n. (n.seat.me.1 ≡ []) × ((start : S.State) × ((known n.seat).start ≡ Some start)) × ((known n.seat).holding ≡ false) };
 }

@@ -31,7 +31,7 @@ pub absorb-requires-clause-rule : goal.absorb-requires-clause-rule
 absorb-requires-clause-rule g c =
     let i = c.loop-pass.invariant in
     let t = c.take-turn.ensures.took in
-    ends _ _ _ _ _ _ _ (i.1 ∙ ap (λ v. v.start) t.view ∙ c.first.invariant.1.1) c.pass.invariant.1.1 i.2 c.pass.invariant.3
+    ends _ _ _ _ _ _ _ (i.1 ∙ ap (λ v. v.start) t.view ∙ c.first.invariant.1.1) c.pass.invariant.1.1 i.2 c.pass.invariant.3 c.pass.invariant.4
 
 pub learn_as-requires-clause-rule : goal.learn_as-requires-clause-rule
 learn_as-requires-clause-rule g c =

@@ -5,7 +5,7 @@ use Rattle.shared_zone.proofs.Calls.{met_begins}
 use Rattle.shared_zone.proofs.zone.SharedZone.meet.Goals as goal
 
 pub absorb-requires-clause-rule : goal.absorb-requires-clause-rule
-absorb-requires-clause-rule g c = meets _ _ _ _ _ _ _ c.pass.invariant.1.1 c.note.invariant.1.1 c.pass.invariant.4
+absorb-requires-clause-rule g c = meets _ _ _ _ _ _ _ c.pass.invariant.1.1 c.note.invariant.1.1 c.pass.invariant.4 c.note.invariant.2
 
 pub learn_as-requires-clause-rule : goal.learn_as-requires-clause-rule
 learn_as-requires-clause-rule g c =
