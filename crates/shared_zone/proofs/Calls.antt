@@ -1,11 +1,11 @@
 -- What a pass knows in a call, in a meeting and at the end.
 use Rattle.std.proofs.Common.{◌≡◌, ℕ, ◌<◌, ◌≤◌, ◌⊎◌, List, [], ◌∷◌, ◌++◌, length, sym, ap, ◌∙◌, subst}
-use Rattle.std.specs.Prelude.{slice_index, slice_index_or, slice_get, map, All, Some}
+use Rattle.std.specs.Prelude.{slice_index, slice_get, map, All, Some}
 use Rattle.std.proofs.lemmas.List.Elements.{All-append}
 use Rattle.zone_object.specs.declared.object.Entry.{Entry}
 use Rattle.zone_object.specs.History.{own, HasRun}
 use Rattle.shared_zone.specs.declared.rule.View.{View}
-use Rattle.shared_zone.specs.Callers.{ZoneId, Zone, Caller, StartsWith, longer, made, Keeps, newcomer, Begins, IsHistoryOf, HasRunOf}
+use Rattle.shared_zone.specs.Callers.{ZoneId, Zone, Caller, StartsWith, longer, made, Keeps, Begins, IsHistoryOf, HasRunOf}
 use Rattle.shared_zone.specs.Rule.{Carried, Within, Opens, Takes, Meets, meeter, Ended, Closes}
 use Rattle.shared_zone.proofs.Lists.{longer_begins, all_nil, all_cons, all_last, all_unmap, all_same}
 use Rattle.shared_zone.proofs.Rooms.{no_others}

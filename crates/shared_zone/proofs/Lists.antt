@@ -1,6 +1,6 @@
 -- Beginnings of histories, and lists of views.
 use Rattle.std.proofs.Common.{◌≡◌, ◌≢◌, ℕ, zero, suc, ◌+◌, ◌<◌, ◌≤◌, ◌⊎◌, Bool, true, false, List, [], ◌∷◌, ◌++◌, length, set, sym, refl, ap, ◌∙◌, subst, inl, inr, ⊎_elim, append_assoc, arith, length-append}
-use Rattle.std.specs.Prelude.{map, slice_get, Some, All, nat_le, nat_eq, if◌then◌else◌}
+use Rattle.std.specs.Prelude.{map, slice_get, Some, All, nat_le, if◌then◌else◌}
 use Rattle.std.proofs.lemmas.List.{append-nil}
 use Rattle.std.proofs.lemmas.Bool.Decides.{nat_tests}
 use mathlib.Core.Option.{some, some-ne-none, some-injective}

@@ -1,8 +1,7 @@
 -- Each step keeps the rule.
-use Rattle.std.proofs.Common.{◌≡◌, ◌≢◌, ℕ, zero, suc, ◌+◌, ◌<◌, ◌≤◌, ◌⊎◌, Bool, true, false, true≢false, List, [], ◌∷◌, ◌++◌, length, set, sym, refl, ap, ◌∙◌, subst, inl, inr, ⊎_elim, arith}
-use Rattle.std.specs.Prelude.{◌==◌, Option, Some, None, option_map, unwrap_or, if◌then◌else◌, slice_index, slice_index_or, All}
+use Rattle.std.proofs.Common.{◌≡◌, ◌≢◌, ℕ, zero, suc, ◌+◌, ◌<◌, ◌≤◌, true, false, true≢false, List, [], ◌∷◌, ◌++◌, length, set, sym, refl, ap, ◌∙◌, subst, inl, inr, ⊎_elim, arith}
+use Rattle.std.specs.Prelude.{◌==◌, Some, None, option_map, unwrap_or, if◌then◌else◌, slice_index, All}
 use Rattle.std.proofs.lemmas.Bool.Decides.{nat_tests}
-use Rattle.std.proofs.Math.ListN.{length-set}
 use mathlib.Core.Option.{some, some-injective, some-ne-none}
 use lib.ListN.{get_elem?}
 use Rattle.crossbeam_queue.specs.Fifo.{Pushes, Pops, Forks, Merges, Learns}
@@ -11,9 +10,9 @@ use Rattle.zone_object.specs.declared.object.Entry.{Entry}
 use Rattle.zone_object.specs.History.{own}
 use Rattle.zone_object.proofs.Own.{own-snoc_other}
 use Rattle.shared_zone.specs.declared.rule.View.{View}
-use Rattle.shared_zone.specs.Callers.{StartsWith, longer}
-use Rattle.shared_zone.specs.Rule.{Carried, Plan, Within, Lives, Ended, Holds, Knows, Lies, Sees, AllSee, IsOut, IsOpen, blank, spent, InTurn, opener, Opens, taker, giver, Takes, maker, made_by, noted, meeter, Meets, ender, Closes}
-use Rattle.shared_zone.proofs.Lists.{either_le, all_nil, all_cons, starts_refl, starts_nil, starts_more, starts_both, longer_cases, Each, each_set, each_more, at_here, at_one, own_between}
+use Rattle.shared_zone.specs.Callers.{StartsWith}
+use Rattle.shared_zone.specs.Rule.{Carried, Plan, Within, Lives, Ended, Lies, Sees, AllSee, IsOut, IsOpen, blank, spent, InTurn, opener, Opens, taker, giver, Takes, maker, made_by, noted, meeter, Meets, ender, Closes}
+use Rattle.shared_zone.proofs.Lists.{either_le, all_nil, all_cons, starts_refl, starts_nil, starts_more, starts_both, longer_cases, each_set, each_more, at_here, at_one, own_between}
 use Rattle.shared_zone.proofs.Rooms.{same_or}
 
 -- the places of the passes once the pass n has the place i

@@ -1,5 +1,5 @@
-use Rattle.std.proofs.Common.{◌≡◌, ℕ, ◌+◌, [], ◌++◌, ◌∷◌, sym, ap, refl, ◌∙◌, arith}
-use Rattle.std.specs.Prelude.{option_map, Some, slice_get}
+use Rattle.std.proofs.Common.{◌+◌, [], sym, ap, ◌∙◌, arith}
+use Rattle.std.specs.Prelude.{option_map}
 use Rattle.crossbeam_queue.specs.Passes.{view}
 use Rattle.shared_zone.proofs.Steps.{makes}
 use Rattle.shared_zone.proofs.Calls.{begins_of}
