@@ -6,7 +6,7 @@ use Rattle.zone_object.specs.declared.object.Entry.{Entry}
 use Rattle.zone_object.specs.History.{own, HasRun}
 use Rattle.shared_zone.specs.declared.rule.View.{View}
 use Rattle.shared_zone.specs.Callers.{ZoneId, Zone, Caller, StartsWith, longer, made, Keeps, Begins, IsHistoryOf, HasRunOf}
-use Rattle.shared_zone.specs.Rule.{Carried, Within, Opens, Takes, Meets, meeter, Ended, Closes}
+use Rattle.shared_zone.specs.Rule.{Carried, HasRunLog, Within, Opens, Takes, Meets, meeter, Ended, Closes}
 use Rattle.shared_zone.proofs.Lists.{longer_begins, all_nil, all_cons, all_last, all_unmap, all_same}
 use Rattle.shared_zone.proofs.Rooms.{no_others}
 
@@ -64,7 +64,7 @@ module _ {X St C R : Type 0} where
   module _ (is_quiet : St → Type 0) (lays : X → St → Type 0) (reply_of : St → C → R) (state_after : St → C → St) (permits : List (Entry X St C R) → C → Type 0) where
     -- what is known of a zone that has just been opened
     pub begins_of : (object : X) (id : ZoneId) (rooms : List ℕ) (passes : List (Caller St (Entry X St C R))) (x : Carried X (Entry X St C R)) (w : View X St C R)
-        → Opens (λ (s : St) (y : Carried X (Entry X St C R)). HasRun is_quiet lays reply_of state_after permits s y.object y.log) x w → x.log ≡ [] → x.object ≡ object
+        → Opens (HasRunLog is_quiet lays reply_of state_after permits) x w → x.log ≡ [] → x.object ≡ object
         → ((number : ℕ) → number < length rooms → slice_get passes number ≡ Some (record { zone = record { id = id; start = w.start; rooms = rooms }; number = number; seen = [] }))
         → Begins is_quiet lays object id rooms passes
     begins_of object id rooms passes x w o none same made_so =

@@ -3,7 +3,7 @@ use Rattle.std.specs.Prelude.{◌≡◌, ℕ, ◌+◌, ◌<◌, ◌≤◌, ◌�
 use mathlib.Core.Option.{some}
 use lib.ListN.{get_elem?}
 use Rattle.zone_object.specs.declared.object.Entry.{Entry}
-use Rattle.zone_object.specs.History.{own}
+use Rattle.zone_object.specs.History.{own, HasRun}
 use Rattle.shared_zone.specs.declared.rule.View.{View}
 use Rattle.shared_zone.specs.Callers.{StartsWith, longer}
 
@@ -69,6 +69,11 @@ module _ {X St C R : Type 0} where
 
   abbrev pub AllSee : Plan St (Entry X St C R) → List (Carried X (Entry X St C R)) → List (View X St C R) → Type 0
   AllSee p items views = (place : ℕ) (v : View X St C R) → get_elem? views place ≡ some v → Sees p items place v
+
+  module _ (is_quiet : St → Type 0) (lays : X → St → Type 0) (reply_of : St → C → R) (state_after : St → C → St) (permits : List (Entry X St C R) → C → Type 0) where
+    -- the object that the turn carries has run the turn's log from this state
+    abbrev pub HasRunLog : St → Carried X (Entry X St C R) → Type 0
+    HasRunLog start x = HasRun is_quiet lays reply_of state_after permits start x.object x.log
 
   module _ (Good : St → Carried X (Entry X St C R) → Type 0) where
     -- the turn lies in the queue, with the zone's history

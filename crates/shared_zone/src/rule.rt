@@ -36,10 +36,9 @@ pub struct InOneTurn<S> {
 }
 
 impl<S: ZoneObject> Protocol<Turn<S>, View<S>> for InOneTurn<S> {
-    ghost use Rattle.zone_object.specs.History.{HasRun};
-    ghost use Rattle.shared_zone.specs.Rule.{InTurn, blank};
+    ghost use Rattle.shared_zone.specs.Rule.{HasRunLog, InTurn, blank};
 
-    ghost holds = { InTurn (λ start x. HasRun S.is_quiet S.lays S.reply_of S.state_after S.permits start x.object x.log) };
+    ghost holds = { InTurn (HasRunLog S.is_quiet S.lays S.reply_of S.state_after S.permits) };
 
     ghost first = { blank };
 }
@@ -48,10 +47,9 @@ impl<S: ZoneObject> Protocol<Turn<S>, View<S>> for InOneTurn<S> {
 pub struct Opening;
 
 impl<S: ZoneObject> Outcome<Turn<S>, View<S>> for Opening {
-    ghost use Rattle.zone_object.specs.History.{HasRun};
-    ghost use Rattle.shared_zone.specs.Rule.{Opens};
+    ghost use Rattle.shared_zone.specs.Rule.{HasRunLog, Opens};
 
-    ghost then = { λ v x w. Opens (λ start x. HasRun S.is_quiet S.lays S.reply_of S.state_after S.permits start x.object x.log) x w };
+    ghost then = { λ v x w. Opens (HasRunLog S.is_quiet S.lays S.reply_of S.state_after S.permits) x w };
 }
 
 impl<S: ZoneObject> Lesson<Turn<S>, View<S>> for Opening {
@@ -64,10 +62,9 @@ impl<S: ZoneObject> Lesson<Turn<S>, View<S>> for Opening {
 pub struct Taking;
 
 impl<S: ZoneObject> Outcome<Turn<S>, View<S>> for Taking {
-    ghost use Rattle.zone_object.specs.History.{HasRun};
-    ghost use Rattle.shared_zone.specs.Rule.{Takes};
+    ghost use Rattle.shared_zone.specs.Rule.{HasRunLog, Takes};
 
-    ghost then = { Takes (λ start x. HasRun S.is_quiet S.lays S.reply_of S.state_after S.permits start x.object x.log) };
+    ghost then = { Takes (HasRunLog S.is_quiet S.lays S.reply_of S.state_after S.permits) };
 }
 
 /// A push that gives the turn back, which never finds the queue full.

@@ -3,7 +3,7 @@ ghost use Rattle.crossbeam_queue.specs.Passes.{view, IsSamePass, IsPassOf, ruled
 ghost use Rattle.zone_object.specs.declared.object.Entry.{Entry};
 ghost use Rattle.zone_object.specs.History.{own, HasRun};
 ghost use Rattle.shared_zone.specs.Callers.{Keeps, HasRunOf};
-ghost use Rattle.shared_zone.specs.Rule.{Within, blank, giver, Opens, Takes};
+ghost use Rattle.shared_zone.specs.Rule.{HasRunLog, Within, blank, giver, Opens, Takes};
 
 use crate::pass::{Note, Pass};
 use crate::rule::{Ending, Giving, Making, Meeting, Noting, Opening, Queue, Seat, Taking};
@@ -47,7 +47,7 @@ fn put<S: ZoneObject, R: Wait>(rt: &R, queue: &Queue<S>, seat: &mut Seat<S>, tur
     requires new { turn.log ≡ [] }
     requires run { (s : S.State) × HasRun S.is_quiet S.lays S.reply_of S.state_after S.permits s turn.object turn.log }
     ensures seat { IsSamePass seat.old seat.new }
-    ensures put { Opens (λ start x. HasRun S.is_quiet S.lays S.reply_of S.state_after S.permits start x.object x.log) turn (view seat.new) }
+    ensures put { Opens (HasRunLog S.is_quiet S.lays S.reply_of S.state_after S.permits) turn (view seat.new) }
 {
     match queue.push_as::<Opening, R>(rt, seat, turn) {
         Ok(()) => {}
@@ -61,7 +61,7 @@ fn take<S: ZoneObject, R: Wait>(rt: &R, queue: &Queue<S>, seat: &mut Seat<S>) ->
     requires live { (view seat.old).live ≡ true }
     requires start { (s : S.State) × ((view seat.old).start ≡ Some s) }
     ensures seat { IsSamePass seat.old seat.new }
-    ensures took { Takes (λ start x. HasRun S.is_quiet S.lays S.reply_of S.state_after S.permits start x.object x.log) (view seat.old) result (view seat.new) }
+    ensures took { Takes (HasRunLog S.is_quiet S.lays S.reply_of S.state_after S.permits) (view seat.old) result (view seat.new) }
 {
     for _ in rt.forever() {
         if let Some(turn) = queue.try_pop_as::<Taking>(seat) {
