@@ -1,0 +1,6 @@
+pub mod Tables
+pub mod Expired
+pub mod Blocks
+pub mod Wholes
+pub mod Steps
+pub mod Fresh
