@@ -10,5 +10,7 @@ pub mod Opening
 pub mod Leaving
 pub mod Object
 pub mod Holding
+pub mod Laws
 pub mod Proving
 pub mod ObjectLaws
+pub mod Rows

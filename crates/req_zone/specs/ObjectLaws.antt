@@ -21,6 +21,10 @@ use Rattle.req_zone.specs.Holding.{IsWhole, IsWithin, Holds}
 use Rattle.req_zone.specs.Proving.Fresh.{opened_whole}
 use Rattle.req_zone.specs.Proving.Steps.{call_becomes}
 
+-- the numbers of so few calls leave room
+room_left : (n : ℕ) → n + 1 < 2 ^ 32 → (e : ReqEntry) → IsWithin n e → HasRoom e
+room_left n short e w = let x = w.excess in let c = w.count in record { excess = omega (arith, x, short); last = w.last; count = omega (arith, c, short) }
+
 module _ {X : Type 0} where
   -- a hold that comes back is one that the caller has
   once_or_none : (at block : ℕ) (mine : List (Entry X ReqState ReqCall ReqReply)) → HoldsEntry mine block → (once_at at block ≡ 0) ⊎ (sum_by (back at) mine + once_at at block ≤ sum_by (given at) mine)
@@ -61,9 +65,6 @@ module _ {X : Type 0} where
   asked_there start log s who (Check key now burst last) h m = m.may
   asked_there start log s who (Account at now) h m = (m.may.0, held_there start log s who (Account at now) at h m m.may.1)
   asked_there start log s who (Release at) h m = held_there start log s who (Release at) at h m m.may
-
-  room_left : (n : ℕ) → n + 1 < 2 ^ 32 → (e : ReqEntry) → IsWithin n e → HasRoom e
-  room_left n short e w = let x = w.excess in let c = w.count in record { excess = omega (arith, x, short); last = w.last; count = omega (arith, c, short) }
 
   readies : (start : ReqState) (log : List (Entry X ReqState ReqCall ReqReply)) (s : ReqState) (who : ℕ) (call : ReqCall) → Holds start log s → MayFollow Permits log who call → Ready s call
   readies start log s who call h m = record {

@@ -4,3 +4,4 @@ pub mod Blocks
 pub mod Wholes
 pub mod Steps
 pub mod Fresh
+pub mod Answers

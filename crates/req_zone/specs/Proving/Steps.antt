@@ -270,7 +270,7 @@ held_becomes s at f call reply whole some key block less numbers back given =
           omega (arith, h, b, g);
     }
 
-find_all : (P : ReqEntry → Type 0) (p : ReqEntry → Bool) (table : List ReqEntry) (e : ReqEntry) → find p table ≡ Some e → All P table → P e
+pub find_all : (P : ReqEntry → Type 0) (p : ReqEntry → Bool) (table : List ReqEntry) (e : ReqEntry) → find p table ≡ Some e → All P table → P e
 find_all P p [] e found h = absurd (cc)
 find_all P p (x ∷ xs) e found h = go (p x) found (λ f. find_all P p xs e f (All-tail P x xs h)) where
   go : (b : Bool) → cond b (Some x) (find p xs) ≡ Some e → (find p xs ≡ Some e → P e) → P e
