@@ -1,6 +1,9 @@
 -- What holds of every call of a request zone.
-use Rattle.std.specs.Prelude.{◌≡◌, ℕ, ◌+◌, ◌<◌, ◌↔◌, Bool, List, ◌∷◌, length, Option, Some, None}
+use Rattle.std.specs.Prelude.{◌≡◌, ℕ, ◌+◌, ◌<◌, ◌↔◌, Bool, nat_eq, List, ◌∷◌, length, map, find, Option, Some, None}
 use Rattle.std.specs.List.{Contains}
+use Rattle.zone_region.specs.Members.{In, IsDistinct}
+use Rattle.slab_model.specs.Blocks.{IsLive}
+use Rattle.slab_model.specs.Geometry.{IsInLimits, shape_of}
 use Rattle.slab_model.specs.Grant.{grant}
 use Rattle.slab_model.specs.State.{Slab}
 use Rattle.slab_model.specs.Store.{slab_store}
@@ -10,11 +13,12 @@ use Rattle.req_zone.specs.declared.calls.ReqCall.{ReqCall}
 use Rattle.req_zone.specs.declared.calls.ReqCall.TheVariants.{Check}
 use Rattle.req_zone.specs.declared.calls.ReqReply.{ReqReply}
 use Rattle.req_zone.specs.declared.calls.ReqReply.TheVariants.{Busy, NoRoom}
-use Rattle.req_zone.specs.Amount.{amount_of}
+use Rattle.req_zone.specs.Amount.{IsRate, amount_of}
 use Rattle.req_zone.specs.Table.{entry_of, others}
 use Rattle.req_zone.specs.Expiry.{first_leaving, forced_leaving, evict}
 use Rattle.req_zone.specs.Step.{node_size}
-use Rattle.req_zone.specs.Object.{parts_of, with_parts, answer_of, zone_after, IsOpened, Ready, CanAnswer}
+use Rattle.req_zone.specs.Object.{IsName, with_context, with_name, opened_zone, IsOpened, parts_of, with_parts, answer_of, zone_after, holds_at, Ready, CanAnswer}
+use Rattle.req_zone.specs.Holding.{IsWhole}
 
 -- ---- busy
 
@@ -81,6 +85,36 @@ pub record IsStillIn (table : List ReqEntry) (entry : ReqEntry) : Type 0 where
 -- an entry that is held is never evicted
 abbrev pub HeldStaysLaw : Type 0
 HeldStaysLaw = (s : ReqState) (call : ReqCall) (entry : ReqEntry) → Contains s.table entry → 0 < entry.count → IsStillIn (zone_after s call).table entry
+
+-- the first entry of block `at` is held
+pub record IsHeldBy (table : List ReqEntry) (at : ℕ) (entry : ReqEntry) : Type 0 where
+  pub found : find (λ (e : ReqEntry). nat_eq e.block at) table ≡ Some entry
+  pub block : entry.block ≡ at
+  pub held : 0 < entry.count
+
+-- in a whole zone a block that is held is that of an entry with a count above 0
+abbrev pub HeldEntryLaw : Type 0
+HeldEntryLaw = (s : ReqState) (at : ℕ) → IsWhole s → 0 < holds_at at s.table → (entry : ReqEntry) × IsHeldBy s.table at entry
+
+-- ---- the blocks of a zone
+
+-- the blocks of a zone: of its context, of its name, and of its entries, newest first
+abbrev pub blocks_of : ReqState → List ℕ
+blocks_of s = s.context ∷ s.name_block ∷ map (λ (entry : ReqEntry). entry.block) s.table
+
+-- the blocks of a whole zone differ, and they are the live blocks of its slab
+abbrev pub WholeLaw : Type 0
+WholeLaw = (s : ReqState) → IsWhole s → IsDistinct (blocks_of s) × ((at : ℕ) → In at (blocks_of s) ↔ IsLive s.slab at)
+
+-- what opening a zone makes: the slab gives both blocks, and a history may begin there
+pub record Opens (rate : ℕ) (name : List ℕ) (bytes : ℕ) : Type 0 where
+  pub context : (with_context bytes).0 ≡ Some (opened_zone rate name bytes).context
+  pub name_block : (with_name bytes name).0 ≡ Some (opened_zone rate name bytes).name_block
+  pub whole : IsWhole (opened_zone rate name bytes)
+  pub quiet : IsOpened (opened_zone rate name bytes)
+
+abbrev pub OpenLaw : Type 0
+OpenLaw = (rate : ℕ) (name : List ℕ) (bytes : ℕ) → IsRate rate → IsName name → IsInLimits (shape_of bytes) → Opens rate name bytes
 
 -- ---- the laws of an object
 

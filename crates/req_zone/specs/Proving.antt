@@ -5,3 +5,4 @@ pub mod Wholes
 pub mod Steps
 pub mod Fresh
 pub mod Answers
+pub mod Named

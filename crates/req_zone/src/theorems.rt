@@ -6,7 +6,7 @@ ghost use Rattle.req_zone.specs.declared.calls.ReqReply.{ReqReply};
 ghost use Rattle.req_zone.specs.declared.state.ReqState.{ReqState};
 ghost use Rattle.req_zone.specs.Object.{IsOpened, answer_of, zone_after, Permits, Ready};
 ghost use Rattle.req_zone.specs.Holding.{Holds};
-ghost use Rattle.req_zone.specs.Laws.{BusyLaw, BusyKeepsLaw, NoRoomLaw, NoRoomLeavesLaw, HeldStaysLaw, AnswerLaw, StartLaw};
+ghost use Rattle.req_zone.specs.Laws.{BusyLaw, BusyKeepsLaw, NoRoomLaw, NoRoomLeavesLaw, HeldStaysLaw, HeldEntryLaw, WholeLaw, OpenLaw, AnswerLaw, StartLaw};
 ghost use Rattle.req_zone.specs.Rows.{OpenRow, HoldRow, BusyRow, SlowRow, BackRow, StaleRow, FullRow, LargeRow};
 
 /// What holds of every call in every state of a request zone, as theorems over the definitions. Nothing runs.
@@ -16,6 +16,9 @@ pub fn laws()
     ensures no_room { NoRoomLaw }
     ensures no_room_leaves { NoRoomLeavesLaw }
     ensures held_stays { HeldStaysLaw }
+    ensures held_entry { HeldEntryLaw }
+    ensures whole { WholeLaw }
+    ensures opens { OpenLaw }
     ensures answers { AnswerLaw }
     ensures start { StartLaw }
 {}

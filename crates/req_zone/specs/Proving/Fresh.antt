@@ -21,6 +21,7 @@ use Rattle.slab_model.proofs.ClassLemmas.{class_of-none}
 use Rattle.req_zone.specs.declared.state.ReqState.{ReqState}
 use Rattle.req_zone.specs.Table.{has_key}
 use Rattle.req_zone.specs.Object.{context_size, name_size, with_context, with_name, opened_zone, IsName, IsOpenedAs, IsOpened, once_at}
+use Rattle.req_zone.specs.Laws.{OpenLaw, StartLaw}
 use Rattle.req_zone.specs.Holding.{nodes_at, named_at, live_at, HasNode, IsWhole}
 use Rattle.req_zone.specs.Proving.Tables.{once_here, once_there}
 use Rattle.req_zone.specs.Proving.Blocks.{grant_shape, bytes_same, live_some, live_none, live_same}
@@ -144,13 +145,24 @@ opened_whole rate name bytes ok limits =
     let g = opens bytes name ok limits in
     subst IsWhole (zone_is rate name bytes g.0 g.1 g.2) (zone_whole rate name bytes g.0 g.1 ok limits g.2)
 
+-- the slab of a fresh zone gives both blocks, and the zone is whole
+pub open-law : OpenLaw
+open-law rate name bytes fast ok limits =
+    let g = opens bytes name ok limits in
+    record {
+      context = g.2.first ∙ ap (λ (o : Option ℕ). Some (unwrap_or o 0)) (sym g.2.first);
+      name_block = g.2.second ∙ ap (λ (o : Option ℕ). Some (unwrap_or o 0)) (sym g.2.second);
+      whole = opened_whole rate name bytes ok limits;
+      quiet = (bytes, record { rate = fast; name = ok; limits = limits; fresh = refl });
+    }
+
 -- ---- two zones that were just opened
 
 opened_shape : (rate : ℕ) (name : List ℕ) (bytes : ℕ) → (opened_zone rate name bytes).slab.shape ≡ shape_of bytes
 opened_shape rate name bytes = grant_shape (with_context bytes).1 (name_size name) ∙ grant_shape (fresh_slab (shape_of bytes)) context_size
 
-pub same_start : (s t : ReqState) → IsOpened s → IsOpened t → s.rate ≡ t.rate → s.name ≡ t.name → s.slab.shape ≡ t.slab.shape → s ≡ t
-same_start s t a b rate name shape =
+pub start-law : StartLaw
+start-law s t a b rate name shape =
     let mine = ap (λ (z : ReqState). z.slab.shape) a.1.fresh ∙ opened_shape s.rate s.name a.0 in
     let other = ap (λ (z : ReqState). z.slab.shape) b.1.fresh ∙ opened_shape t.rate t.name b.0 in
     let bytes : a.0 ≡ b.0 = ap (λ (h : Shape). h.bytes) (sym mine ∙ shape ∙ other) in

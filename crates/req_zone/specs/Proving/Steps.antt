@@ -213,7 +213,7 @@ module _ (at : ℕ) (f : ReqEntry → ReqEntry) where
     go false rest = All-cons Q e (change_at at f es) (old e (All-head P e es h)) rest
 
 -- a block that no entry has isn't held
-unnamed : (at : ℕ) (table : List ReqEntry) → nodes_at at table ≡ 0 → holds_at at table ≡ 0
+pub unnamed : (at : ℕ) (table : List ReqEntry) → nodes_at at table ≡ 0 → holds_at at table ≡ 0
 unnamed at [] none = refl
 unnamed at (e ∷ es) none = go (eqb e.block at) refl (λ h. unnamed at es h) where
   go : (b : Bool) → eqb e.block at ≡ b → (nodes_at at es ≡ 0 → holds_at at es ≡ 0) → holds_at at (e ∷ es) ≡ 0
