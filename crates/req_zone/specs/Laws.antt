@@ -1,5 +1,5 @@
 -- What holds of every call of a request zone.
-use Rattle.std.specs.Prelude.{◌≡◌, ℕ, ◌+◌, ◌<◌, ◌↔◌, Bool, nat_eq, List, ◌∷◌, length, map, find, Some, None}
+use Rattle.std.specs.Prelude.{◌≡◌, ℕ, ◌+◌, ◌<◌, ◌↔◌, Bool, ◌&&◌, nat_eq, List, [], ◌∷◌, ◌++◌, length, map, find, reverse, Some, None, if◌then◌else◌}
 use Rattle.std.specs.List.{Contains}
 use Rattle.zone_region.specs.Members.{In, IsDistinct}
 use Rattle.slab_model.specs.Blocks.{IsLive}

@@ -1,5 +1,5 @@
 -- Expiry takes the oldest entries one after another.
-use Rattle.std.proofs.Common.{ℕ, zero, suc, ◌≡◌, ◌+◌, ◌-◌, ◌≤◌, ◌&&◌, Bool, true, false, cond, eqb, List, [], ◌∷◌, ◌++◌, length, take, reverse, refl, sym, ap, ◌∙◌, arith, length-append}
+use Rattle.std.proofs.Common.{ℕ, zero, suc, ◌≡◌, ◌+◌, ◌-◌, ◌&&◌, Bool, true, false, cond, eqb, List, [], ◌∷◌, ◌++◌, length, take, reverse, refl, sym, ap, ◌∙◌, arith, length-append}
 use Rattle.std.proofs.lemmas.List.{reverse-append, take-append-le}
 use Rattle.std.proofs.lemmas.Grind.{common_steps}
 use Rattle.slab_model.specs.State.{Slab}
@@ -11,20 +11,18 @@ use Rattle.req_zone.specs.Table.{is_stale}
 use Rattle.req_zone.specs.State.{State, give_all}
 use Rattle.req_zone.specs.Expiry.{stale_leaving, forced_from, forced_leaving, evict}
 use Rattle.req_zone.specs.Object.{parts_of, with_parts}
-use Rattle.req_zone.specs.Laws.{with_table, stale_expired, forced_expired, oldest_left, NoneExpiresLaw, StaleStepLaw, ForcedStepLaw, FirstStepLaw, first_expired}
+use Rattle.req_zone.specs.Laws.{with_table, stale_expired, forced_expired, oldest_left, NoneExpiresLaw, StaleStepLaw, ForcedStepLaw, FirstStepLaw}
 
 module _ {S : Type 0} (memory : BlockStore S) where
-  state_of : List ReqEntry → S → State S
+  abbrev pub state_of : List ReqEntry → S → State S
   state_of table store = record { table = table; memory = store }
 
   -- none leaves
   pub evict-none : (table : List ReqEntry) (store : S) → evict memory (state_of table store) 0 ≡ state_of table store
-  unfolding state_of
   evict-none table store = let all : take (length table - 0) table ≡ table = grind (arith, common_steps) in ap (λ (xs : List ReqEntry). state_of xs store) all
 
   -- one more leaves: the oldest, and then the others
   pub evict-oldest : (newer : List ReqEntry) (oldest : ReqEntry) (store : S) (n : ℕ) → evict memory (state_of (newer ++ oldest ∷ []) store) (1 + n) ≡ evict memory (state_of newer (memory.give_back store oldest.block)) n
-  unfolding state_of
   evict-oldest newer oldest store n =
       let all = newer ++ oldest ∷ [] in
       let next : 1 + n ≡ suc n = omega arith in
@@ -51,7 +49,6 @@ turned_forced rate now newer oldest = ap (λ (xs : List ReqEntry). forced_from r
 
 -- as many as a test says leave
 by_test : (s : ReqState) (newer : List ReqEntry) (oldest : ReqEntry) (n : ℕ) (b : Bool) → with_parts s (evict slab_store (parts_of (with_table s (newer ++ oldest ∷ []))) (cond b (1 + n) 0)) ≡ cond b (with_parts s (evict slab_store (record { table = newer; memory = give_back s.slab oldest.block }) n)) (with_table s (newer ++ oldest ∷ []))
-unfolding state_of
 by_test s newer oldest n true = ap (λ (p : State Slab). with_parts s p) (evict-oldest slab_store newer oldest s.slab n)
 by_test s newer oldest n false = ap (λ (p : State Slab). with_parts s p) (evict-none slab_store (newer ++ oldest ∷ []) s.slab)
 
@@ -78,7 +75,6 @@ empty_stale rate now zero = refl
 empty_stale rate now (suc most) = refl
 
 none_left : (s : ReqState) → with_parts s (evict slab_store (parts_of s) 0) ≡ s
-unfolding state_of
 none_left s = ap (λ (p : State Slab). with_parts s p) (evict-none slab_store s.table s.slab)
 
 pub none_expires-law : NoneExpiresLaw
