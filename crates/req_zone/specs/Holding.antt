@@ -1,5 +1,5 @@
 -- What calls of a request zone carry along a history.
-use Rattle.std.specs.Prelude.{◌≡◌, ℕ, ◌+◌, ◌*◌, ◌≤◌, nat_eq, nat_lt, List, length, sum_by, if◌then◌else◌}
+use Rattle.std.specs.Prelude.{◌≡◌, ℕ, ◌+◌, ◌*◌, ◌≤◌, nat_lt, List, length, sum_by, if◌then◌else◌}
 use Rattle.std.specs.List.{All}
 use Rattle.slab_model.specs.Blocks.{live_bytes}
 use Rattle.slab_model.specs.Grant.{block_bytes}

@@ -1,21 +1,20 @@
 -- What holds of every call of a request zone.
-use Rattle.std.specs.Prelude.{◌≡◌, ℕ, ◌+◌, ◌<◌, ◌↔◌, Bool, nat_eq, List, ◌∷◌, length, map, find, Option, Some, None}
+use Rattle.std.specs.Prelude.{◌≡◌, ℕ, ◌+◌, ◌<◌, ◌↔◌, Bool, ◌&&◌, nat_eq, List, [], ◌∷◌, ◌++◌, length, map, find, reverse, Some, None, if◌then◌else◌}
 use Rattle.std.specs.List.{Contains}
 use Rattle.zone_region.specs.Members.{In, IsDistinct}
 use Rattle.slab_model.specs.Blocks.{IsLive}
 use Rattle.slab_model.specs.Geometry.{IsInLimits, shape_of}
 use Rattle.slab_model.specs.Grant.{grant}
-use Rattle.slab_model.specs.State.{Slab}
+use Rattle.slab_model.specs.Return.{give_back}
 use Rattle.slab_model.specs.Store.{slab_store}
 use Rattle.req_zone.specs.declared.state.ReqEntry.{ReqEntry}
 use Rattle.req_zone.specs.declared.state.ReqState.{ReqState}
 use Rattle.req_zone.specs.declared.calls.ReqCall.{ReqCall}
 use Rattle.req_zone.specs.declared.calls.ReqCall.TheVariants.{Check}
-use Rattle.req_zone.specs.declared.calls.ReqReply.{ReqReply}
 use Rattle.req_zone.specs.declared.calls.ReqReply.TheVariants.{Busy, NoRoom}
 use Rattle.req_zone.specs.Amount.{IsRate, amount_of}
-use Rattle.req_zone.specs.Table.{entry_of, others}
-use Rattle.req_zone.specs.Expiry.{first_leaving, forced_leaving, evict}
+use Rattle.req_zone.specs.Table.{entry_of, others, is_stale}
+use Rattle.req_zone.specs.Expiry.{stale_leaving, first_leaving, forced_leaving, evict}
 use Rattle.req_zone.specs.Step.{node_size}
 use Rattle.req_zone.specs.Object.{IsName, with_context, with_name, opened_zone, IsOpened, parts_of, with_parts, answer_of, zone_after, holds_at, Ready, CanAnswer}
 use Rattle.req_zone.specs.Holding.{IsWhole}
@@ -40,7 +39,11 @@ with_table s table = with_parts s (record { table = table; memory = s.slab })
 abbrev pub BusyKeepsLaw : Type 0
 BusyKeepsLaw = (s : ReqState) (key : List ℕ) (now burst : ℕ) (last : Bool) (excess : ℕ) (entry : ReqEntry) → IsAbove s key now burst excess entry → zone_after s (Check key now burst last) ≡ with_table s (entry ∷ others key s.table)
 
--- ---- no room
+-- ---- expiry, one entry after another
+
+-- the zone once stale entries left, so many at most
+abbrev pub stale_expired : ℕ → ℕ → ReqState → ReqState
+stale_expired most now s = with_parts s (evict slab_store (parts_of s) (stale_leaving s.rate now most (reverse s.table)))
 
 -- the zone after the first expiry
 abbrev pub first_expired : ReqState → ℕ → ReqState
@@ -49,6 +52,28 @@ first_expired s now = with_parts s (evict slab_store (parts_of s) (first_leaving
 -- the zone after the forced expiry
 abbrev pub forced_expired : ReqState → ℕ → ReqState
 forced_expired s now = with_parts s (evict slab_store (parts_of s) (forced_leaving s.rate now s.table))
+
+-- the zone once its oldest entry left: the newer ones, and the slab with its block given back
+abbrev pub oldest_left : ReqState → List ReqEntry → ReqEntry → ReqState
+oldest_left s newer oldest = with_parts s (record { table = newer; memory = give_back s.slab oldest.block })
+
+-- the first expiry lets up to two stale entries leave
+abbrev pub FirstStepLaw : Type 0
+FirstStepLaw = (s : ReqState) (now : ℕ) → first_expired s now ≡ stale_expired 2 now s
+
+-- the oldest entry leaves where it is stale and no request holds it, and then the others may
+abbrev pub StaleStepLaw : Type 0
+StaleStepLaw = (s : ReqState) (now most : ℕ) (newer : List ReqEntry) (oldest : ReqEntry) → s.table ≡ newer ++ oldest ∷ [] → stale_expired (1 + most) now s ≡ (if nat_eq oldest.count 0 && is_stale s.rate now oldest then stale_expired most now (oldest_left s newer oldest) else s)
+
+-- the forced expiry lets the oldest entry leave, stale or not, where no request holds it, and then up to two stale ones
+abbrev pub ForcedStepLaw : Type 0
+ForcedStepLaw = (s : ReqState) (now : ℕ) (newer : List ReqEntry) (oldest : ReqEntry) → s.table ≡ newer ++ oldest ∷ [] → forced_expired s now ≡ (if nat_eq oldest.count 0 then stale_expired 2 now (oldest_left s newer oldest) else s)
+
+-- nothing changes where none may leave or there is none
+abbrev pub NoneExpiresLaw : Type 0
+NoneExpiresLaw = (s : ReqState) (now : ℕ) → (stale_expired 0 now s ≡ s) × (s.table ≡ [] → (most : ℕ) → stale_expired most now s ≡ s) × (s.table ≡ [] → forced_expired s now ≡ s)
+
+-- ---- no room
 
 -- the zone once its slab was asked for so many bytes
 abbrev pub asked_for : ReqState → ℕ → ReqState

@@ -152,12 +152,16 @@ pub record Ready (s : ReqState) (call : ReqCall) : Type 0 where
 abbrev pub IsExcess : ℕ → Type 0
 IsExcess excess = excess < 2 ^ 52
 
+-- an excess within the burst
+abbrev pub IsInBurst : ℕ → ℕ → Type 0
+IsInBurst burst excess = (excess ≤ burst) × IsExcess excess
+
 -- a check is answered by its kind of limit, by busy above the burst, or by the number of entries that left without making room
 abbrev pub CanCheck : ℕ → ℕ → Bool → ReqReply → Type 0
-CanCheck entries burst true (Pass excess) = excess ≤ burst
+CanCheck entries burst true (Pass excess) = IsInBurst burst excess
 CanCheck entries burst false (Pass excess) = ⊥
 CanCheck entries burst true (Again excess at) = ⊥
-CanCheck entries burst false (Again excess at) = excess ≤ burst
+CanCheck entries burst false (Again excess at) = IsInBurst burst excess
 CanCheck entries burst last (Busy excess) = (burst < excess) × IsExcess excess
 CanCheck entries burst last (NoRoom evicted) = evicted ≤ entries
 CanCheck entries burst last (Accounted excess) = ⊥

@@ -1,5 +1,5 @@
 -- The laws of a request zone as an object.
-use Rattle.std.proofs.Common.{ℕ, ◌≡◌, ◌+◌, ◌-◌, ◌*◌, ◌^◌, ◌<◌, ◌≤◌, ◌⊎◌, Bool, true, false, cond, eqb, ltb, List, [], ◌∷◌, ◌++◌, length, Option, Some, None, refl, sym, ap, subst, ◌∙◌, inl, inr, arith, length-append}
+use Rattle.std.proofs.Common.{ℕ, ◌≡◌, ◌+◌, ◌^◌, ◌<◌, ◌≤◌, ◌⊎◌, Bool, true, false, cond, eqb, List, [], ◌∷◌, ◌++◌, length, refl, sym, ap, subst, inl, inr, arith, length-append}
 use Rattle.std.specs.Prelude.{sum_by}
 use Rattle.std.specs.List.{All}
 use Rattle.std.proofs.lemmas.Bool.{eqb-true}
@@ -15,7 +15,6 @@ use Rattle.req_zone.specs.declared.state.ReqState.{ReqState}
 use Rattle.req_zone.specs.declared.calls.ReqCall.{ReqCall}
 use Rattle.req_zone.specs.declared.calls.ReqCall.TheVariants.{Check, Account, Release}
 use Rattle.req_zone.specs.declared.calls.ReqReply.{ReqReply}
-use Rattle.req_zone.specs.Amount.{greatest_burst}
 use Rattle.req_zone.specs.Object.{IsOpened, answer_of, zone_after, HoldsEntry, Permits, Ready, IsReadyAt, HasRoom, given, back, back_by, once_at, holds_at}
 use Rattle.req_zone.specs.Holding.{IsWhole, IsWithin, Holds}
 use Rattle.req_zone.specs.Proving.Fresh.{opened_whole}

@@ -6,3 +6,4 @@ pub mod Steps
 pub mod Fresh
 pub mod Answers
 pub mod Named
+pub mod Oldest

@@ -1,12 +1,12 @@
 -- Worked rows, which the definitions compute.
-use Rattle.std.specs.Prelude.{ℕ, zero, suc, ◌≡◌, ◌+◌, ◌/◌, ◌%◌, Bool, true, false, List, [], ◌∷◌, ◌++◌, map, replicate, codes}
+use Rattle.std.specs.Prelude.{ℕ, zero, suc, ◌≡◌, ◌+◌, ◌/◌, ◌%◌, true, false, List, [], ◌∷◌, map, replicate, codes}
 use Rattle.slab_model.specs.Counting.{free_pages}
 use Rattle.req_zone.specs.declared.state.ReqEntry.{ReqEntry}
 use Rattle.req_zone.specs.declared.state.ReqState.{ReqState}
 use Rattle.req_zone.specs.declared.calls.ReqCall.{ReqCall}
-use Rattle.req_zone.specs.declared.calls.ReqCall.TheVariants.{Check, Account, Release}
+use Rattle.req_zone.specs.declared.calls.ReqCall.TheVariants.{Check, Account}
 use Rattle.req_zone.specs.declared.calls.ReqReply.{ReqReply}
-use Rattle.req_zone.specs.declared.calls.ReqReply.TheVariants.{Pass, Again, Busy, NoRoom, Accounted, Released}
+use Rattle.req_zone.specs.declared.calls.ReqReply.TheVariants.{Pass, Again, Busy, NoRoom, Accounted}
 use Rattle.req_zone.specs.Object.{opened_zone, answer_of, zone_after}
 
 -- the replies of these calls, one after another
@@ -72,14 +72,22 @@ StaleRow = keys_in (after (one 1000 32768) (ask_for 0 (codes "a") ∷ ask_for 0 
 abbrev pub numbered : ℕ → List ℕ
 numbered n = 97 ∷ (48 + n / 100) ∷ (48 + n / 10 % 10) ∷ (48 + n % 10) ∷ []
 
--- checks of so many keys at moment 0
-abbrev pub ask_keys : ℕ → List ReqCall
-ask_keys zero = []
-ask_keys (suc n) = ask_for 0 (numbered n) ∷ ask_keys n
+-- checks of so many keys at moment 0, numbered from `first` on
+abbrev pub ask_keys : ℕ → ℕ → List ReqCall
+ask_keys first zero = []
+ask_keys first (suc n) = ask_for 0 (numbered first) ∷ ask_keys (first + 1) n
 
--- 191 keys fill 32 KiB: a longer key finds no room and evicts one entry, in whose place another short key finds room
+-- a stale entry that is held stays, and those before it too
+abbrev pub HeldRow : Type 0
+HeldRow = keys_in (after (one 1000 32768) (Check (codes "a") 0 0 false ∷ ask_for 0 (codes "b") ∷ ask_for 120000 (codes "c") ∷ [])) ≡ codes "c" ∷ codes "b" ∷ codes "a" ∷ []
+
+-- 191 keys of 4 bytes fill 32 KiB: the 192nd evicts the first, which then evicts the second
+abbrev pub EvictRow : Type 0
+EvictRow = answers (after (one 1000 32768) (ask_keys 1 192)) (ask_for 0 (numbered 1) ∷ ask_for 0 (numbered 3) ∷ []) ≡ Pass 0 ∷ Busy 1000 ∷ []
+
+-- then a longer key finds no room and evicts one entry, in whose place another short key finds room
 abbrev pub FullRow : Type 0
-FullRow = answers (after (one 1000 32768) (ask_keys 191)) (ask_for 0 (replicate 49 98) ∷ ask_for 0 (codes "last") ∷ []) ≡ NoRoom 1 ∷ Pass 0 ∷ []
+FullRow = answers (after (one 1000 32768) (ask_keys 1 191)) (ask_for 0 (replicate 49 98) ∷ ask_for 0 (codes "last") ∷ []) ≡ NoRoom 1 ∷ Pass 0 ∷ []
 
 -- a key of 65,535 bytes takes 17 pages, more than 32 KiB have
 abbrev pub LargeRow : Type 0

@@ -6,13 +6,17 @@ ghost use Rattle.req_zone.specs.declared.calls.ReqReply.{ReqReply};
 ghost use Rattle.req_zone.specs.declared.state.ReqState.{ReqState};
 ghost use Rattle.req_zone.specs.Object.{IsOpened, answer_of, zone_after, Permits, Ready};
 ghost use Rattle.req_zone.specs.Holding.{Holds};
-ghost use Rattle.req_zone.specs.Laws.{BusyLaw, BusyKeepsLaw, NoRoomLaw, NoRoomLeavesLaw, HeldStaysLaw, HeldEntryLaw, WholeLaw, OpenLaw, AnswerLaw, StartLaw};
-ghost use Rattle.req_zone.specs.Rows.{OpenRow, HoldRow, BusyRow, SlowRow, BackRow, StaleRow, FullRow, LargeRow};
+ghost use Rattle.req_zone.specs.Laws.{BusyLaw, BusyKeepsLaw, NoRoomLaw, NoRoomLeavesLaw, FirstStepLaw, StaleStepLaw, ForcedStepLaw, NoneExpiresLaw, HeldStaysLaw, HeldEntryLaw, WholeLaw, OpenLaw, AnswerLaw, StartLaw};
+ghost use Rattle.req_zone.specs.Rows.{OpenRow, HoldRow, BusyRow, SlowRow, BackRow, StaleRow, HeldRow, EvictRow, FullRow, LargeRow};
 
 /// What holds of every call in every state of a request zone, as theorems over the definitions. Nothing runs.
 pub fn laws()
     ensures busy { BusyLaw }
     ensures busy_keeps { BusyKeepsLaw }
+    ensures first_step { FirstStepLaw }
+    ensures stale_step { StaleStepLaw }
+    ensures forced_step { ForcedStepLaw }
+    ensures none_expires { NoneExpiresLaw }
     ensures no_room { NoRoomLaw }
     ensures no_room_leaves { NoRoomLeavesLaw }
     ensures held_stays { HeldStaysLaw }
@@ -38,6 +42,8 @@ pub fn worked_rows()
     ensures slow { SlowRow }
     ensures back { BackRow }
     ensures stale { StaleRow }
+    ensures held { HeldRow }
+    ensures evict { EvictRow }
     ensures full { FullRow }
     ensures large { LargeRow }
 {}

@@ -1,5 +1,5 @@
 -- What calls are answered, and which entries stay.
-use Rattle.std.proofs.Common.{ℕ, ◌≡◌, ◌+◌, ◌-◌, ◌<◌, ◌≤◌, ◌⊎◌, Bool, true, false, cond, eqb, ltb, List, [], ◌∷◌, ◌++◌, length, take, reverse, find, Option, Some, None, refl, sym, ap, subst, ◌∙◌, inl, inr, arith}
+use Rattle.std.proofs.Common.{ℕ, ◌≡◌, ◌+◌, ◌-◌, ◌<◌, ◌≤◌, ◌⊎◌, Bool, true, false, cond, eqb, ltb, List, [], ◌∷◌, ◌++◌, length, take, reverse, find, Option, Some, None, refl, sym, ap, ◌∙◌, inl, inr, arith}
 use Rattle.std.proofs.lemmas.Bool.{lt-ltb, ltb-true, ltb-false}
 use Rattle.std.proofs.lemmas.List.Elements.{All-nil, All-head, All-contains, Contains-append_left, Contains-append_right, Contains-append_cases, Contains-push, Contains-push_cases}
 use Rattle.std.proofs.lemmas.List.Sorted.{All-permutation, Contains-permutation}
@@ -10,18 +10,17 @@ use Rattle.slab_model.specs.Grant.{grant}
 use Rattle.slab_model.specs.Store.{slab_store}
 use Rattle.req_zone.specs.declared.state.ReqEntry.{ReqEntry}
 use Rattle.req_zone.specs.declared.state.ReqState.{ReqState}
-use Rattle.req_zone.specs.declared.calls.ReqCall.{ReqCall}
 use Rattle.req_zone.specs.declared.calls.ReqCall.TheVariants.{Check, Account, Release}
 use Rattle.req_zone.specs.declared.calls.ReqReply.{ReqReply}
-use Rattle.req_zone.specs.declared.calls.ReqReply.TheVariants.{Pass, Again, Busy, NoRoom, Accounted, Released}
+use Rattle.req_zone.specs.declared.calls.ReqReply.TheVariants.{Busy, NoRoom}
 use Rattle.req_zone.specs.Amount.{amount_of}
 use Rattle.req_zone.specs.Table.{entry_of, others}
-use Rattle.req_zone.specs.Expiry.{first_leaving, forced_leaving, without_oldest, evict}
+use Rattle.req_zone.specs.Expiry.{first_leaving, forced_leaving, without_oldest}
 use Rattle.req_zone.specs.State.{State}
-use Rattle.req_zone.specs.Step.{node_size, stored, with_count, within_burst, check_found, new_entry, new_reply, after_second, by_force, after_first, check_missing, check_as, change_at, account_amount}
-use Rattle.req_zone.specs.Object.{parts_of, with_parts, answer_of, zone_after, HasRoom, Ready, IsExcess, CanCheck, CanAccount, CanAnswer}
-use Rattle.req_zone.specs.Laws.{IsAbove, BusyLaw, BusyKeepsLaw, first_expired, forced_expired, asked_for, before_second, HasNoRoom, NoRoomLaw, NoRoomLeavesLaw, IsStillIn, HeldStaysLaw, AnswerLaw, StartLaw}
-use Rattle.req_zone.specs.Proving.Tables.{some_same, found_permutes, evicted_permutes}
+use Rattle.req_zone.specs.Step.{node_size, stored, with_count, within_burst, check_found, new_entry, new_reply, after_second, after_first, check_as, change_at, account_amount}
+use Rattle.req_zone.specs.Object.{parts_of, with_parts, HasRoom, IsExcess, CanCheck}
+use Rattle.req_zone.specs.Laws.{IsAbove, BusyLaw, BusyKeepsLaw, first_expired, forced_expired, asked_for, before_second, HasNoRoom, NoRoomLaw, NoRoomLeavesLaw, IsStillIn, HeldStaysLaw, AnswerLaw}
+use Rattle.req_zone.specs.Proving.Tables.{found_permutes, evicted_permutes}
 use Rattle.req_zone.specs.Proving.Expired.{IsFree, first_within, forced_within, first_free, forced_free}
 use Rattle.req_zone.specs.Proving.Steps.{amount_le, find_all}
 
@@ -150,8 +149,8 @@ no_room_leaves-law s key now burst last evicted full = ap (λ (r : ReqReply × S
 -- ---- what a call can be answered
 
 new_can : (entries burst : ℕ) (last : Bool) (at : ℕ) → CanCheck entries burst last (new_reply last at)
-new_can entries burst true at = omega arith
-new_can entries burst false at = omega arith
+new_can entries burst true at = (omega arith, omega arith)
+new_can entries burst false at = (omega arith, omega arith)
 
 full_can : (entries burst : ℕ) (last : Bool) (evicted : ℕ) → evicted ≤ entries → CanCheck entries burst last (NoRoom evicted)
 full_can entries burst true evicted h = h
@@ -161,13 +160,13 @@ busy_can : (entries burst : ℕ) (last : Bool) (excess : ℕ) → burst < excess
 busy_can entries burst true excess h k = (h, k)
 busy_can entries burst false excess h k = (h, k)
 
-burst_can : (entries burst amount now : ℕ) (last : Bool) (e : ReqEntry) (rest : List ReqEntry) → amount ≤ burst → CanCheck entries burst last (within_burst amount now last e rest).0
-burst_can entries burst amount now true e rest h = h
-burst_can entries burst amount now false e rest h = h
+burst_can : (entries burst amount now : ℕ) (last : Bool) (e : ReqEntry) (rest : List ReqEntry) → amount ≤ burst → IsExcess amount → CanCheck entries burst last (within_burst amount now last e rest).0
+burst_can entries burst amount now true e rest h small = (h, small)
+burst_can entries burst amount now false e rest h small = (h, small)
 
 found_can : (entries burst amount now : ℕ) (last : Bool) (e : ReqEntry) (rest : List ReqEntry) → IsExcess amount → (b : Bool) → ltb burst amount ≡ b → CanCheck entries burst last (cond b (Busy amount, e ∷ rest) (within_burst amount now last e rest)).0
 found_can entries burst amount now last e rest small true is = busy_can entries burst last amount (ltb-true burst amount is) small
-found_can entries burst amount now last e rest small false is = burst_can entries burst amount now last e rest (ltb-false burst amount is)
+found_can entries burst amount now last e rest small false is = burst_can entries burst amount now last e rest (ltb-false burst amount is) small
 
 second_can : (entries burst : ℕ) (key : List ℕ) (now : ℕ) (last : Bool) (evicted : ℕ) (table : List ReqEntry) (o : Option ℕ) (slab : Slab) → evicted ≤ entries → CanCheck entries burst last (after_second key now last evicted table o slab).0
 second_can entries burst key now last evicted table None slab h = full_can entries burst last evicted h

@@ -1,18 +1,16 @@
 -- The blocks of a slab that gives and takes.
-use Rattle.std.proofs.Common.{ℕ, ◌≡◌, ◌+◌, ◌*◌, ◌<◌, ◌≤◌, ◌⊎◌, Bool, true, false, cond, ltb, List, [], ◌∷◌, Option, Some, None, refl, sym, ap, subst, ◌∙◌, inl, inr, arith}
+use Rattle.std.proofs.Common.{ℕ, ◌≡◌, ◌+◌, ◌*◌, ◌<◌, ◌≤◌, Bool, true, false, cond, ltb, List, [], ◌∷◌, Option, Some, None, refl, ap, ◌∙◌, inl, inr, arith}
 use Rattle.std.proofs.lemmas.Bool.{cases_eq, cases_lt, lt-ltb}
 use Rattle.slab_model.specs.declared.shape.Shape.{Shape}
 use Rattle.slab_model.specs.declared.page.PageState.{PageState}
 use Rattle.slab_model.specs.declared.page.PageState.TheVariants.{Free, First, Later, Class}
-use Rattle.slab_model.specs.Geometry.{page_size, class_size, class_of, pages_for}
-use Rattle.slab_model.specs.Numbers.{without}
+use Rattle.slab_model.specs.Geometry.{page_size, class_of, pages_for}
 use Rattle.slab_model.specs.Runs.{first_fit}
 use Rattle.slab_model.specs.State.{Slab, page_at, list_of}
 use Rattle.slab_model.specs.Blocks.{page_number, place_in_page, live_bytes, IsLive}
 use Rattle.slab_model.specs.Grant.{grant, grant_as, grant_run, grant_from_list, grant_in_new_page, block_bytes, block_bytes_as}
 use Rattle.slab_model.specs.Return.{give_back, give_from, give_in_page}
 use Rattle.slab_model.specs.Soundness.{IsSound}
-use Rattle.slab_model.specs.Laws.{Returns}
 use Rattle.slab_model.specs.Store.{slab_store}
 use Rattle.slab_model.proofs.Laws.{give_back-sound}
 use Rattle.slab_model.proofs.BlockLaws.{give_back-returns}
@@ -116,13 +114,13 @@ gives_one base slab e es owns = (live, record { sound = give_back-sound slab e.b
       let more = nodes_more at e es in
       elim (cases_eq at e.block) [
         | inl same ↦
-          let one : once_at at e.block ≡ 1 = ap (λ (n : ℕ). once_at n e.block) same ∙ once_here e.block in
-          let gone = live_none (give_back slab e.block) at (ap (λ (n : ℕ). live_bytes (give_back slab e.block) n) same ∙ r.gone) in
-          omega (arith, h, more, one, gone, live_most slab at)
+            let one : once_at at e.block ≡ 1 = ap (λ (n : ℕ). once_at n e.block) same ∙ once_here e.block in
+            let gone = live_none (give_back slab e.block) at (ap (λ (n : ℕ). live_bytes (give_back slab e.block) n) same ∙ r.gone) in
+            omega (arith, h, more, one, gone, live_most slab at)
         | inr other ↦
-          let none = once_there at e.block other in
-          let stays = live_same slab (give_back slab e.block) at (r.others at other) in
-          omega (arith, h, more, none, stays)
+            let none = once_there at e.block other in
+            let stays = live_same slab (give_back slab e.block) at (r.others at other) in
+            omega (arith, h, more, none, stays)
       ]
 
 pub given_back : (base : ℕ → ℕ) (slab : Slab) (gone : List ReqEntry) → Owns base slab gone → Gave base slab (give_all slab_store slab gone)
@@ -142,8 +140,8 @@ given_back base slab (e ∷ es) owns =
       kept = λ at some.
           let h = owns.named at in
           let ne : at ≡ e.block → ⊥ = λ same.
-              let own = ap (λ (n : ℕ). once_at n e.block) same ∙ once_here e.block in
-              absurd (omega (arith, h, some, own, nodes_more at e es, live_most slab at)) in
+          let own = ap (λ (n : ℕ). once_at n e.block) same ∙ once_here e.block in
+          absurd (omega (arith, h, some, own, nodes_more at e es, live_most slab at)) in
           rest.kept at some ∙ r.others at ne;
       shape = rest.shape ∙ back_shape slab e.block;
     }

@@ -1,7 +1,6 @@
 -- A zone that was just opened.
-use Rattle.std.proofs.Common.{ℕ, ◌≡◌, ◌+◌, ◌<◌, ◌≤◌, ◌⊎◌, Bool, true, false, cond, leb, List, [], ◌∷◌, length, not, ◌||◌, Option, Some, None, unwrap_or, refl, sym, ap, subst, ◌∙◌, inl, inr, arith}
+use Rattle.std.proofs.Common.{ℕ, ◌≡◌, ◌<◌, ◌≤◌, Bool, true, false, cond, leb, List, [], ◌∷◌, not, Option, Some, None, unwrap_or, refl, sym, ap, subst, ◌∙◌, inl, inr, arith}
 use Rattle.std.specs.Prelude.{is_some}
-use Rattle.std.specs.List.{All}
 use Rattle.std.proofs.lemmas.Bool.{cases_eq, leb-false, or_right}
 use Rattle.std.proofs.lemmas.List.Elements.{All-nil}
 use Rattle.slab_model.specs.declared.runs.Run.{Run}
@@ -9,20 +8,18 @@ use Rattle.slab_model.specs.declared.shape.Shape.{Shape}
 use Rattle.slab_model.specs.Geometry.{IsInLimits, shape_of, most_pages, start_of, pages_of, class_of}
 use Rattle.slab_model.specs.Runs.{first_fit, page_total}
 use Rattle.slab_model.specs.State.{Slab, fresh_slab, list_of}
-use Rattle.slab_model.specs.Blocks.{live_bytes, IsLive}
+use Rattle.slab_model.specs.Blocks.{live_bytes}
 use Rattle.slab_model.specs.Counting.{free_pages}
-use Rattle.slab_model.specs.Grant.{grant, fits, fits_as, is_empty, block_bytes}
-use Rattle.slab_model.specs.Soundness.{IsSound}
+use Rattle.slab_model.specs.Grant.{grant, fits, fits_as, is_empty}
 use Rattle.slab_model.specs.Laws.{pages_taken, pages_taken_as}
 use Rattle.slab_model.proofs.Laws.{grant-sound, fits-grant}
 use Rattle.slab_model.proofs.BlockLaws.{fresh-law, grant-grants}
 use Rattle.slab_model.proofs.CountLaws.{grant_pages-law}
 use Rattle.slab_model.proofs.ClassLemmas.{class_of-none}
 use Rattle.req_zone.specs.declared.state.ReqState.{ReqState}
-use Rattle.req_zone.specs.Table.{has_key}
-use Rattle.req_zone.specs.Object.{context_size, name_size, with_context, with_name, opened_zone, IsName, IsOpenedAs, IsOpened, once_at}
+use Rattle.req_zone.specs.Object.{context_size, name_size, with_context, with_name, opened_zone, IsName, once_at}
 use Rattle.req_zone.specs.Laws.{OpenLaw, StartLaw}
-use Rattle.req_zone.specs.Holding.{nodes_at, named_at, live_at, HasNode, IsWhole}
+use Rattle.req_zone.specs.Holding.{HasNode, IsWhole}
 use Rattle.req_zone.specs.Proving.Tables.{once_here, once_there}
 use Rattle.req_zone.specs.Proving.Blocks.{grant_shape, bytes_same, live_some, live_none, live_same}
 
@@ -116,23 +113,23 @@ zone_whole rate name bytes a b ok limits g =
       sound = grant-sound one size sound some_name;
       named = λ at. elim (cases_eq at b) [
         | inl same ↦
-          let own : once_at at b ≡ 1 = ap (λ (n : ℕ). once_at n b) same ∙ once_here b in
-          let other = once_there at a (λ e. apart (sym e ∙ same)) in
-          let live = live_some two at (let x = ap (λ (n : ℕ). live_bytes two n) same ∙ second.0.bytes in omega (arith, x, second.1, some_name)) in
-          omega (arith, own, other, live)
+            let own : once_at at b ≡ 1 = ap (λ (n : ℕ). once_at n b) same ∙ once_here b in
+            let other = once_there at a (λ e. apart (sym e ∙ same)) in
+            let live = live_some two at (let x = ap (λ (n : ℕ). live_bytes two n) same ∙ second.0.bytes in omega (arith, x, second.1, some_name)) in
+            omega (arith, own, other, live)
         | inr ne ↦
-          let none = once_there at b ne in
-          let stays = live_same one two at (second.0.others at ne) in
-          elim (cases_eq at a) [
-            | inl same ↦
-              let own : once_at at a ≡ 1 = ap (λ (n : ℕ). once_at n a) same ∙ once_here a in
-              let live = live_some one at (let x = ap (λ (n : ℕ). live_bytes one n) same in omega (arith, x, first_live)) in
-              omega (arith, own, none, stays, live)
-            | inr too ↦
-              let zero_there = once_there at a too in
-              let free = live_none one at (first.0.others at too ∙ law.1 at) in
-              omega (arith, none, zero_there, stays, free)
-          ]
+            let none = once_there at b ne in
+            let stays = live_same one two at (second.0.others at ne) in
+            elim (cases_eq at a) [
+              | inl same ↦
+                  let own : once_at at a ≡ 1 = ap (λ (n : ℕ). once_at n a) same ∙ once_here a in
+                  let live = live_some one at (let x = ap (λ (n : ℕ). live_bytes one n) same in omega (arith, x, first_live)) in
+                  omega (arith, own, none, stays, live)
+              | inr too ↦
+                  let zero_there = once_there at a too in
+                  let free = live_none one at (first.0.others at too ∙ law.1 at) in
+                  omega (arith, none, zero_there, stays, free)
+            ]
       ];
       context = second.0.others a apart ∙ first.0.bytes ∙ sym (bytes_same one two context_size shape_two ∙ bytes_same fresh one context_size shape_one);
       name = second.0.bytes ∙ sym (bytes_same one two size shape_two);

@@ -1,12 +1,11 @@
 -- The blocks of a whole zone as a list, and the entry of a block that is held.
-use Rattle.std.proofs.Common.{ℕ, ◌≡◌, ◌+◌, ◌<◌, ◌≤◌, ◌⊎◌, Bool, true, false, cond, eqb, List, [], ◌∷◌, map, find, Option, Some, None, refl, sym, ap, subst, ◌∙◌, inl, inr, arith}
+use Rattle.std.proofs.Common.{ℕ, ◌≡◌, ◌+◌, ◌<◌, ◌≤◌, Bool, true, false, cond, eqb, List, [], ◌∷◌, map, find, Some, refl, ap, ◌∙◌, inl, inr, arith}
 use Rattle.std.proofs.lemmas.Bool.{cases_eq, eqb-true}
 use Rattle.zone_region.specs.Members.{In, IsDistinct}
-use Rattle.slab_model.specs.Blocks.{IsLive}
 use Rattle.req_zone.specs.declared.state.ReqEntry.{ReqEntry}
 use Rattle.req_zone.specs.declared.state.ReqState.{ReqState}
 use Rattle.req_zone.specs.Object.{once_at, holds_at}
-use Rattle.req_zone.specs.Holding.{nodes_at, named_at, live_at, IsWhole}
+use Rattle.req_zone.specs.Holding.{nodes_at, named_at}
 use Rattle.req_zone.specs.Laws.{IsHeldBy, HeldEntryLaw, blocks_of, WholeLaw}
 use Rattle.req_zone.specs.Proving.Tables.{once_here, once_there, nodes_more, holds_more}
 use Rattle.req_zone.specs.Proving.Blocks.{live_some, live_most, is_live}

@@ -1,13 +1,12 @@
 -- What a call of a request zone makes of a whole zone.
-use Rattle.std.proofs.Common.{ℕ, ◌≡◌, ◌+◌, ◌-◌, ◌*◌, ◌<◌, ◌≤◌, ◌⊎◌, Bool, true, false, cond, eqb, ltb, List, [], ◌∷◌, length, take, reverse, find, Option, Some, None, refl, sym, ap, subst, ◌∙◌, inl, inr, arith}
-use Rattle.std.proofs.lemmas.Bool.{eqb-true, ltb-false, cases_eq}
+use Rattle.std.proofs.Common.{ℕ, ◌≡◌, ◌+◌, ◌-◌, ◌*◌, ◌<◌, ◌≤◌, Bool, true, false, cond, eqb, ltb, List, [], ◌∷◌, length, take, reverse, find, Option, Some, None, refl, sym, ap, subst, ◌∙◌, arith}
+use Rattle.std.proofs.lemmas.Bool.{eqb-true, ltb-false}
 use Rattle.std.proofs.lemmas.List.Elements.{All-nil, All-cons, All-head, All-tail, All-weaker, All-take}
 use Rattle.std.proofs.lemmas.List.Sorted.{All-permutation}
 use Rattle.std.specs.List.{All}
 use Rattle.std.specs.List.Sorted.{IsPermutation}
 use Rattle.std.specs.Str.{bytes_eq}
 use Rattle.std.proofs.lemmas.List.Sums.{sum_by-take-le}
-use Rattle.slab_model.specs.State.{Slab}
 use Rattle.slab_model.specs.Blocks.{live_bytes}
 use Rattle.slab_model.specs.Grant.{grant, block_bytes}
 use Rattle.slab_model.specs.Store.{slab_store}
@@ -16,14 +15,13 @@ use Rattle.req_zone.specs.declared.state.ReqState.{ReqState}
 use Rattle.req_zone.specs.declared.calls.ReqCall.{ReqCall}
 use Rattle.req_zone.specs.declared.calls.ReqCall.TheVariants.{Check, Account, Release}
 use Rattle.req_zone.specs.declared.calls.ReqReply.{ReqReply}
-use Rattle.req_zone.specs.declared.calls.ReqReply.TheVariants.{Pass, Again, Busy, NoRoom, Accounted, Released}
+use Rattle.req_zone.specs.declared.calls.ReqReply.TheVariants.{Pass, Again, Busy, Accounted, Released}
 use Rattle.req_zone.specs.Amount.{IsMoment, greatest_burst, elapsed, allowance, amount_of, stamp}
 use Rattle.req_zone.specs.Table.{has_key, entry_of, others}
-use Rattle.req_zone.specs.State.{State}
-use Rattle.req_zone.specs.Expiry.{first_leaving, forced_leaving, without_oldest, evict}
-use Rattle.req_zone.specs.Step.{node_size, stored, with_count, within_burst, check_found, new_entry, new_reply, after_second, by_force, after_first, check_missing, check_as, change_at, account_amount}
+use Rattle.req_zone.specs.Expiry.{first_leaving, forced_leaving, evict}
+use Rattle.req_zone.specs.Step.{node_size, stored, with_count, within_burst, new_entry, new_reply, after_second, by_force, after_first, check_missing, check_as, change_at, account_amount}
 use Rattle.req_zone.specs.Object.{parts_of, with_parts, answer_of, zone_after, IsAsked, IsReadyAt, once_at, given_by, back_by, holds_at}
-use Rattle.req_zone.specs.Holding.{entries_of, nodes_at, named_at, live_at, HasNode, IsWhole, IsWithin}
+use Rattle.req_zone.specs.Holding.{entries_of, nodes_at, HasNode, IsWhole, IsWithin}
 use Rattle.req_zone.specs.Proving.Tables.{some_same, found_permutes, missing_none, holds_permute, nodes_permute, keys_permute, holds_more, nodes_more, keys_more}
 use Rattle.req_zone.specs.Proving.Expired.{IsFree, first_within, forced_within, first_free, forced_free}
 use Rattle.req_zone.specs.Proving.Blocks.{live_most}

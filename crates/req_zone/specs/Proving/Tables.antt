@@ -1,15 +1,14 @@
 -- Tables that are split and put in another order.
-use Rattle.std.proofs.Common.{rules, ℕ, ◌≡◌, ◌+◌, ◌-◌, ◌<◌, ◌≤◌, ◌⊎◌, Bool, true, false, cond, eqb, List, [], ◌∷◌, ◌++◌, length, take, drop, get_or, reverse, Option, Some, None, refl, sym, ap, subst, ◌∙◌, inl, inr, arith, length-append}
-use Rattle.std.proofs.lemmas.List.{reverse-append, length-reverse, take-append-drop}
+use Rattle.std.proofs.Common.{rules, ℕ, ◌≡◌, ◌+◌, ◌-◌, ◌<◌, ◌≤◌, Bool, true, false, cond, eqb, List, [], ◌∷◌, ◌++◌, length, take, drop, get_or, reverse, Some, None, refl, sym, ap, subst, ◌∙◌, inl, inr, arith}
+use Rattle.std.proofs.lemmas.List.{reverse-append, take-append-drop}
 use Rattle.std.proofs.lemmas.List.Folds.{find_at}
 use Rattle.std.proofs.lemmas.List.Sums.{sum_by-cons, sum_by-append, get_or-le-sum_by}
-use Rattle.std.proofs.lemmas.List.Elements.{All-cons, All-head, All-tail}
-use Rattle.std.proofs.lemmas.List.Sorted.{IsPermutation-remove, IsPermutation-append_right, IsPermutation-reverse, IsPermutation-refl, sum_by-IsPermutation, All-permutation}
+use Rattle.std.proofs.lemmas.List.Sorted.{IsPermutation-remove, IsPermutation-append_right, IsPermutation-reverse, sum_by-IsPermutation}
 use Rattle.std.proofs.lemmas.Option.{slice_get-get_or, slice_get_past}
 use Rattle.std.proofs.lemmas.Slice.Eq.{bytes_eq-Decides}
 use Rattle.std.proofs.lemmas.Bool.{cases_lt, eq-eqb, ne_eqb}
 use Rattle.std.proofs.lemmas.Grind.{common_steps}
-use Rattle.std.specs.List.{All, remove, position_or_len, sum_by, slice_get}
+use Rattle.std.specs.List.{position_or_len}
 use Rattle.std.specs.List.Sorted.{IsPermutation}
 use Rattle.std.specs.Str.{bytes_eq}
 use Rattle.req_zone.specs.declared.state.ReqEntry.{ReqEntry}
@@ -19,13 +18,13 @@ use Rattle.req_zone.specs.Object.{holds_at, once_at}
 use Rattle.req_zone.specs.Holding.{entries_of, nodes_at}
 
 pub some_same : {A : Type 0} (x y : A) → Some x ≡ Some y → x ≡ y
-some_same x y h = ap (elim [ | Some z ↦ z | None ↦ x ]) h
+some_same x y h = ap (elim [ Some z ↦ z | None ↦ x ]) h
 
 -- the entry of a key before the others is the table in another order
 pub found_permutes : (key : List ℕ) (table : List ReqEntry) (e : ReqEntry) → entry_of key table ≡ Some e → IsPermutation table (e ∷ others key table)
 found_permutes key table e found = elim (cases_lt (position_or_len (has_key key) table) (length table)) [
   | inl below ↦ IsPermutation-remove table (position_or_len (has_key key) table) e below
-    (some_same e (get_or table (position_or_len (has_key key) table) e) (sym found ∙ find_at (has_key key) table ∙ slice_get-get_or table (position_or_len (has_key key) table) e below))
+      (some_same e (get_or table (position_or_len (has_key key) table) e) (sym found ∙ find_at (has_key key) table ∙ slice_get-get_or table (position_or_len (has_key key) table) e below))
   | inr past ↦ none (sym found ∙ find_at (has_key key) table ∙ slice_get_past table (position_or_len (has_key key) table) past)
 ] where
   none : Some e ≡ None → IsPermutation table (e ∷ others key table)

@@ -1,5 +1,5 @@
 -- A zone stays whole.
-use Rattle.std.proofs.Common.{ℕ, ◌≡◌, ◌+◌, ◌-◌, ◌<◌, ◌≤◌, ◌⊎◌, Bool, true, false, cond, eqb, List, [], ◌∷◌, ◌++◌, length, take, reverse, get_or, Option, Some, None, refl, sym, ap, subst, ◌∙◌, inl, inr, arith}
+use Rattle.std.proofs.Common.{ℕ, ◌≡◌, ◌+◌, ◌-◌, ◌<◌, ◌≤◌, Bool, true, false, cond, List, [], ◌∷◌, ◌++◌, length, take, reverse, get_or, Some, None, refl, sym, ap, ◌∙◌, inl, inr, arith}
 use Rattle.std.proofs.lemmas.Bool.{cases_eq}
 use Rattle.std.proofs.lemmas.List.Elements.{All-cons, All-get_or, All-from_get_or, All-take}
 use Rattle.std.proofs.lemmas.List.Sums.{sum_by-take-le}
@@ -14,14 +14,14 @@ use Rattle.slab_model.proofs.BlockLaws.{grant-grants, grant-none}
 use Rattle.req_zone.specs.declared.state.ReqEntry.{ReqEntry}
 use Rattle.req_zone.specs.declared.state.ReqState.{ReqState}
 use Rattle.req_zone.specs.Table.{has_key}
-use Rattle.req_zone.specs.State.{State, give_all}
+use Rattle.req_zone.specs.State.{give_all}
 use Rattle.req_zone.specs.Expiry.{without_oldest, evict}
-use Rattle.req_zone.specs.Step.{node_size, new_entry}
+use Rattle.req_zone.specs.Step.{node_size}
 use Rattle.req_zone.specs.Object.{parts_of, with_parts, once_at, holds_at, context_size, name_size}
-use Rattle.req_zone.specs.Holding.{entries_of, nodes_at, named_at, live_at, HasNode, IsWhole, IsWithin}
+use Rattle.req_zone.specs.Holding.{entries_of, nodes_at, named_at, HasNode, IsWhole}
 use Rattle.req_zone.specs.Proving.Tables.{evicted_permutes, same_key, holds_permute, nodes_permute, holds_join, nodes_join, nodes_more, keys_more, once_here, once_there, each_named}
 use Rattle.req_zone.specs.Proving.Expired.{IsFree, free_holds}
-use Rattle.req_zone.specs.Proving.Blocks.{grant_shape, bytes_same, live_some, live_none, live_same, is_live, Owns, Gave, given_back}
+use Rattle.req_zone.specs.Proving.Blocks.{grant_shape, bytes_same, live_some, live_none, live_same, Owns, given_back}
 
 no_entry : ReqEntry
 no_entry = record { key = []; block = 0; excess = 0; last = 0; count = 0 }
@@ -117,8 +117,8 @@ whole_new s key now at last whole missing given e own here =
     let g = grant-grants s.slab size at whole.sound some given in
     let shape = grant_shape s.slab size in
     let apart : (other : ℕ) → 0 < named_at s other → live_bytes slab other ≡ live_bytes s.slab other = λ other named.
-        let h = whole.named other in
-        g.0.others other (λ same. absurd (omega (arith, h, named, live_none s.slab other (ap (λ (n : ℕ). live_bytes s.slab n) same ∙ g.0.fresh)))) in
+    let h = whole.named other in
+    g.0.others other (λ same. absurd (omega (arith, h, named, live_none s.slab other (ap (λ (n : ℕ). live_bytes s.slab n) same ∙ g.0.fresh)))) in
     record {
       sound = grant-sound s.slab size whole.sound some;
       named = λ other.
@@ -126,14 +126,14 @@ whole_new s key now at last whole missing given e own here =
           let more = nodes_more other e s.table in
           elim (cases_eq other at) [
             | inl same ↦
-              let one : once_at other e.block ≡ 1 = ap (λ (n : ℕ). once_at n e.block) (same ∙ sym here) ∙ once_here e.block in
-              let was = live_none s.slab other (ap (λ (n : ℕ). live_bytes s.slab n) same ∙ g.0.fresh) in
-              let now_live = live_some slab other (let b = ap (λ (n : ℕ). live_bytes slab n) same ∙ g.0.bytes in omega (arith, b, g.1, some)) in
-              omega (arith, h, more, one, was, now_live)
+                let one : once_at other e.block ≡ 1 = ap (λ (n : ℕ). once_at n e.block) (same ∙ sym here) ∙ once_here e.block in
+                let was = live_none s.slab other (ap (λ (n : ℕ). live_bytes s.slab n) same ∙ g.0.fresh) in
+                let now_live = live_some slab other (let b = ap (λ (n : ℕ). live_bytes slab n) same ∙ g.0.bytes in omega (arith, b, g.1, some)) in
+                omega (arith, h, more, one, was, now_live)
             | inr ne ↦
-              let none = once_there other e.block (λ same. ne (same ∙ here)) in
-              let stays = live_same s.slab slab other (g.0.others other ne) in
-              omega (arith, h, more, none, stays)
+                let none = once_there other e.block (λ same. ne (same ∙ here)) in
+                let stays = live_same s.slab slab other (g.0.others other ne) in
+                omega (arith, h, more, none, stays)
           ];
       context = apart s.context (context_named s) ∙ whole.context ∙ sym (bytes_same s.slab slab context_size shape);
       name = apart s.name_block (name_named s) ∙ whole.name ∙ sym (bytes_same s.slab slab (name_size s.name) shape);

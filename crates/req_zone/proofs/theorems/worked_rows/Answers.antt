@@ -2,7 +2,7 @@ use Rattle.std.proofs.Common.{refl}
 use Rattle.slab_model.specs.Geometry.{start_of, pages_of, most_pages, class_of, class_size, pages_for, blocks_in_page, first_index, usable_blocks}
 use Rattle.slab_model.specs.Grant.{grant}
 use Rattle.slab_model.specs.Return.{give_back}
-use Rattle.req_zone.specs.Rows.{OpenRow, HoldRow, BusyRow, SlowRow, BackRow, StaleRow, FullRow, LargeRow}
+use Rattle.req_zone.specs.Rows.{OpenRow, HoldRow, BusyRow, SlowRow, BackRow, StaleRow, HeldRow, EvictRow, FullRow, LargeRow}
 use Rattle.req_zone.proofs.theorems.worked_rows.Goals as goal
 
 open_row : OpenRow
@@ -29,6 +29,14 @@ stale_row : StaleRow
 unfolding start_of pages_of most_pages class_of class_size pages_for blocks_in_page first_index usable_blocks grant give_back
 stale_row = refl
 
+held_row : HeldRow
+unfolding start_of pages_of most_pages class_of class_size pages_for blocks_in_page first_index usable_blocks grant give_back
+held_row = refl
+
+evict_row : EvictRow
+unfolding start_of pages_of most_pages class_of class_size pages_for blocks_in_page first_index usable_blocks grant give_back
+evict_row = refl
+
 full_row : FullRow
 unfolding start_of pages_of most_pages class_of class_size pages_for blocks_in_page first_index usable_blocks grant give_back
 full_row = refl
@@ -38,4 +46,4 @@ unfolding start_of pages_of most_pages class_of class_size pages_for blocks_in_p
 large_row = (refl, refl, refl)
 
 pub returns : goal.returns
-returns c = record { opened = open_row; hold = hold_row; busy = busy_row; slow = slow_row; back = back_row; stale = stale_row; full = full_row; large = large_row }
+returns c = record { opened = open_row; hold = hold_row; busy = busy_row; slow = slow_row; back = back_row; stale = stale_row; held = held_row; evict = evict_row; full = full_row; large = large_row }
