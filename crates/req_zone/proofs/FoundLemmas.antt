@@ -11,7 +11,7 @@ use Rattle.req_zone.specs.State.{State}
 use Rattle.req_zone.specs.declared.calls.ReqReply.{ReqReply}
 use Rattle.req_zone.specs.declared.calls.ReqCall.TheVariants.{Check}
 use Rattle.req_zone.specs.Step.{check_found, check_missing, check_as, step}
-use Rattle.req_zone.specs.Places.{Zone, places, Answers}
+use Rattle.req_zone.specs.Counted.{Zone, places, Answers}
 
 chosen : (b : Bool) (p i : ℕ) → cond b (Some p) None ≡ Some i → (b ≡ true) × (p ≡ i)
 chosen true p i h = (refl, cc)

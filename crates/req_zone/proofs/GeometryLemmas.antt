@@ -1,7 +1,7 @@
 -- How many pages a zone has.
 use Rattle.std.proofs.Common.{ℕ, ◌≡◌, ◌*◌, ◌-◌, ◌^◌, ◌<◌, ◌≤◌, List, [], length, ap, ◌∙◌, arith}
 use Rattle.req_zone.specs.declared.state.ReqEntry.{ReqEntry}
-use Rattle.req_zone.specs.Places.{Zone, opened, capacity_of}
+use Rattle.req_zone.specs.Counted.{Zone, opened, capacity_of}
 use Rattle.slab_model.specs.Geometry.{shape_of, most_pages, start_of, pages_of, least_zone, greatest_zone}
 
 -- at least two pages, and fewer than 2 ^ 32

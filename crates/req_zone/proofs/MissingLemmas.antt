@@ -12,7 +12,7 @@ use Rattle.req_zone.specs.Leaving.{leaving_in_all}
 use Rattle.req_zone.specs.declared.calls.ReqReply.{ReqReply}
 use Rattle.req_zone.specs.declared.calls.ReqReply.TheVariants.{Pass}
 use Rattle.req_zone.specs.Step.{new_entry, node_size, after_first, after_second, check_missing}
-use Rattle.req_zone.specs.Places.{places}
+use Rattle.req_zone.specs.Counted.{places}
 
 at_most : (b : Bool) (x y : ℕ) → x ≤ y → cond b (1 + x) 0 ≤ 1 + y
 at_most true x y h = omega arith

@@ -5,7 +5,7 @@ pub mod Table
 pub mod State
 pub mod Expiry
 pub mod Step
-pub mod Places
+pub mod Counted
 pub mod Opening
 pub mod Leaving
 pub mod Object

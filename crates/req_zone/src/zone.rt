@@ -1,7 +1,7 @@
 ghost use Rattle.std.specs.Prelude.{◌≡◌, ◌<◌, ◌≤◌, ◌+◌, ◌-◌, ◌*◌, ◌^◌, ℕ, length, IfOk, OnErr, MatchResult, true};
 ghost use Rattle.req_zone.specs.Amount.{IsRate, IsMoment, greatest_burst};
 ghost use Rattle.req_zone.specs.declared.calls.ReqCall.TheVariants.{Check};
-ghost use Rattle.req_zone.specs.Places.{Zone, opened, capacity_of, places, Answers};
+ghost use Rattle.req_zone.specs.Counted.{Zone, opened, capacity_of, places, Answers};
 ghost use Rattle.req_zone.specs.Step.{check_missing};
 ghost use Rattle.req_zone.specs.Table.{entry_of};
 ghost use Rattle.req_zone.specs.Leaving.{leaving_in_all};
@@ -32,7 +32,7 @@ pub struct ReqZone {
 impl Model for ReqZone {
     ghost use Rattle.std.specs.Prelude.{◌<◌, ◌≤◌, ◌-◌, length, vec_len};
     ghost use Rattle.req_zone.specs.Amount.{IsRate};
-    ghost use Rattle.req_zone.specs.Places.{Zone};
+    ghost use Rattle.req_zone.specs.Counted.{Zone};
 
     ghost Value = { Zone };
 

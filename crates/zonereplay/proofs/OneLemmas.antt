@@ -11,7 +11,7 @@ use Rattle.req_zone.specs.Expiry.{first_leaving, evict}
 use Rattle.req_zone.specs.declared.calls.ReqCall.{ReqCall}
 use Rattle.req_zone.specs.declared.calls.ReqCall.TheVariants.{Check}
 use Rattle.req_zone.specs.Step.{node_size, step, replies_of, check_as, after_first, after_second, within_burst}
-use Rattle.req_zone.specs.Places.{places, Zone, Answers}
+use Rattle.req_zone.specs.Counted.{places, Zone, Answers}
 use Rattle.zonereplay.specs.OneText.{delayed_excess, reply_line, reply_lines, checks}
 use Rattle.zonereplay.specs.declared.keys.KeyLine.{KeyLine}
 

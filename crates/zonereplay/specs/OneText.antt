@@ -7,7 +7,7 @@ use Rattle.req_zone.specs.Amount.{delay_of}
 use Rattle.req_zone.specs.declared.calls.ReqCall.{ReqCall}
 use Rattle.req_zone.specs.declared.calls.ReqCall.TheVariants.{Check}
 use Rattle.req_zone.specs.Step.{replies_of}
-use Rattle.req_zone.specs.Places.{places, opened}
+use Rattle.req_zone.specs.Counted.{places, opened}
 use Rattle.zonereplay.specs.declared.keys.KeyLine.{KeyLine}
 use Rattle.zonereplay.specs.Words.{OneJob}
 

@@ -5,7 +5,7 @@ use Rattle.req_zone.specs.declared.calls.ReqReply.{ReqReply}
 use Rattle.req_zone.specs.declared.calls.ReqReply.TheVariants.{Pass}
 use Rattle.req_zone.specs.Leaving.{leaving_in_all}
 use Rattle.req_zone.specs.Step.{check_missing}
-use Rattle.req_zone.specs.Places.{Zone, places}
+use Rattle.req_zone.specs.Counted.{Zone, places}
 use Rattle.req_zone.proofs.MissingLemmas.{admitted_is}
 use Rattle.req_zone.proofs.zone.ReqZone.admit.Goals as goal
 

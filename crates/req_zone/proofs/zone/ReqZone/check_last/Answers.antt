@@ -4,7 +4,7 @@ use Rattle.req_zone.specs.declared.state.ReqEntry.{ReqEntry}
 use Rattle.req_zone.specs.Table.{has_key}
 use Rattle.req_zone.specs.declared.calls.ReqCall.TheVariants.{Check}
 use Rattle.req_zone.specs.Step.{check_found}
-use Rattle.req_zone.specs.Places.{Zone, Answers}
+use Rattle.req_zone.specs.Counted.{Zone, Answers}
 use Rattle.req_zone.proofs.FoundLemmas.{found_answers, written_over, missing_answers, if_ok, on_err, missing_at}
 use Rattle.req_zone.proofs.zone.ReqZone.check_last.Goals as goal
 
