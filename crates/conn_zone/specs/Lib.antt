@@ -4,3 +4,4 @@ pub mod State
 pub mod Step
 pub mod Object
 pub mod Holding
+pub mod Proving
