@@ -5,3 +5,4 @@ pub mod Step
 pub mod Object
 pub mod Holding
 pub mod Proving
+pub mod ObjectLaws

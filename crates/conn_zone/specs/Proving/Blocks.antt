@@ -1,6 +1,6 @@
 -- The blocks of a slab that gives and takes.
-use Rattle.std.proofs.Common.{ℕ, ◌≡◌, ◌*◌, ◌<◌, ◌≤◌, Bool, true, false, cond, ltb, List, [], ◌∷◌, Option, Some, None, refl, sym, ap, subst, ◌∙◌, inl, inr, arith}
-use Rattle.std.proofs.lemmas.Bool.{cases_lt, lt-ltb}
+use Rattle.std.proofs.Common.{ℕ, ◌≡◌, ◌+◌, ◌*◌, ◌<◌, ◌≤◌, Bool, true, false, cond, ltb, List, [], ◌∷◌, Option, Some, None, refl, sym, ap, subst, ◌∙◌, inl, inr, arith}
+use Rattle.std.proofs.lemmas.Bool.{cases_eq, cases_lt, lt-ltb}
 use Rattle.slab_model.specs.declared.shape.Shape.{Shape}
 use Rattle.slab_model.specs.declared.page.PageState.{PageState}
 use Rattle.slab_model.specs.declared.page.PageState.TheVariants.{Free, First, Later, Class}
@@ -10,7 +10,11 @@ use Rattle.slab_model.specs.State.{Slab, page_at, list_of}
 use Rattle.slab_model.specs.Blocks.{page_number, place_in_page, live_bytes, IsLive}
 use Rattle.slab_model.specs.Grant.{grant, grant_as, grant_run, grant_from_list, grant_in_new_page, block_bytes, block_bytes_as}
 use Rattle.slab_model.specs.Return.{give_back, give_from, give_in_page}
+use Rattle.slab_model.specs.Soundness.{IsSound}
+use Rattle.slab_model.proofs.BlockLaws.{grant-grants, give_back-returns}
+use Rattle.conn_zone.specs.Object.{once_at}
 use Rattle.conn_zone.specs.Holding.{live_at}
+use Rattle.conn_zone.specs.Proving.Tables.{once_here, once_there}
 
 -- ---- the shape stays
 
@@ -78,3 +82,37 @@ is_live slab at some = elim (cases_lt 0 (live_bytes slab at)) [
   | inl live ↦ live
   | inr none ↦ let gone : live_bytes slab at ≡ 0 = omega arith in absurd (omega (arith, some, live_none slab at gone))
 ]
+
+-- a grant makes one block live
+pub granted_live : (slab : Slab) (size at : ℕ) → IsSound slab → 0 < size → (grant slab size).0 ≡ Some at → (other : ℕ) → live_at (grant slab size).1 other ≡ once_at other at + live_at slab other
+granted_live slab size at sound some given other =
+    let new = (grant slab size).1 in
+    let g = grant-grants slab size at sound some given in
+    elim (cases_eq other at) [
+      | inl same ↦
+        let one : once_at other at ≡ 1 = ap (λ (n : ℕ). once_at n at) same ∙ once_here at in
+        let was = live_none slab other (ap (λ (n : ℕ). live_bytes slab n) same ∙ g.0.fresh) in
+        let now = live_some new other (let b = ap (λ (n : ℕ). live_bytes new n) same ∙ g.0.bytes in omega (arith, b, g.1, some)) in
+        omega (arith, one, was, now)
+      | inr ne ↦
+        let none = once_there other at ne in
+        let stays = live_same slab new other (g.0.others other ne) in
+        omega (arith, none, stays)
+    ]
+
+-- and a return takes one away
+pub returned_live : (slab : Slab) (at : ℕ) → IsSound slab → IsLive slab at → (other : ℕ) → live_at (give_back slab at) other + once_at other at ≡ live_at slab other
+returned_live slab at sound live other =
+    let new = give_back slab at in
+    let r = give_back-returns slab at sound live in
+    elim (cases_eq other at) [
+      | inl same ↦
+        let one : once_at other at ≡ 1 = ap (λ (n : ℕ). once_at n at) same ∙ once_here at in
+        let was = live_some slab other (subst (λ (n : ℕ). 0 < live_bytes slab n) (sym same) live) in
+        let gone = live_none new other (ap (λ (n : ℕ). live_bytes new n) same ∙ r.gone) in
+        omega (arith, one, was, gone)
+      | inr ne ↦
+        let none = once_there other at ne in
+        let stays = live_same slab new other (r.others other ne) in
+        omega (arith, none, stays)
+    ]

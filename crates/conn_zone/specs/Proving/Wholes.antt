@@ -18,7 +18,7 @@ use Rattle.conn_zone.specs.Step.{node_size, new_entry}
 use Rattle.conn_zone.specs.Object.{with_parts, once_at, context_size, name_size}
 use Rattle.conn_zone.specs.Holding.{entries_of, nodes_at, named_at, live_at, HasNode, IsWhole}
 use Rattle.conn_zone.specs.Proving.Tables.{found_passes, found_all, replaced_sum, replaced_all, node_weight, key_weight, nodes_more, keys_more, sum_one, missing_none, same_key, same_block, once_here, once_there, each_named}
-use Rattle.conn_zone.specs.Proving.Blocks.{grant_shape, back_shape, bytes_same, live_some, live_none, live_same, live_most, is_live}
+use Rattle.conn_zone.specs.Proving.Blocks.{grant_shape, back_shape, bytes_same, live_none, live_same, is_live, granted_live, returned_live}
 
 no_entry : ConnEntry
 no_entry = record { key = []; block = 0; count = 0 }
@@ -90,28 +90,6 @@ granted_keeps s size at whole some given = let g = grant-grants s.slab size at w
       g.0.others other (λ same. absurd (omega (arith, h, named, live_none s.slab other (ap (λ (n : ℕ). live_bytes s.slab n) same ∙ g.0.fresh))));
 }
 
--- the new node is the block that was granted
-named_new : (s : ConnState) (key : List ℕ) (at : ℕ) → IsWhole s → (grant s.slab (node_size + length key)).0 ≡ Some at
-    → (other : ℕ) → named_at (changed s (new_entry key at ∷ s.table) (grant s.slab (node_size + length key)).1) other ≡ live_at (grant s.slab (node_size + length key)).1 other
-named_new s key at whole given other =
-    let size = node_size + length key in
-    let slab = (grant s.slab size).1 in
-    let some : 0 < size = omega arith in
-    let g = grant-grants s.slab size at whole.sound some given in
-    let h = whole.named other in
-    let more = nodes_more other (new_entry key at) s.table in
-    elim (cases_eq other at) [
-      | inl same ↦
-        let one : once_at other at ≡ 1 = ap (λ (n : ℕ). once_at n at) same ∙ once_here at in
-        let was = live_none s.slab other (ap (λ (n : ℕ). live_bytes s.slab n) same ∙ g.0.fresh) in
-        let now = live_some slab other (let b = ap (λ (n : ℕ). live_bytes slab n) same ∙ g.0.bytes in omega (arith, b, g.1, some)) in
-        omega (arith, h, more, one, was, now)
-      | inr ne ↦
-        let none = once_there other at ne in
-        let stays = live_same s.slab slab other (g.0.others other ne) in
-        omega (arith, h, more, none, stays)
-    ]
-
 -- its key was missing
 keys_new : (key : List ℕ) (at : ℕ) (table : List ConnEntry) → entries_of key table ≡ 0 → (other : List ℕ) → entries_of other table ≤ 1 → entries_of other (new_entry key at ∷ table) ≤ 1
 keys_new key at table missing other few = at_most (has_key other (new_entry key at)) refl (keys_more other (new_entry key at) table) where
@@ -134,7 +112,11 @@ whole_new s key at whole missing given =
     let keeps = granted_keeps s size at whole some given in
     record {
       sound = grant-sound s.slab size whole.sound some;
-      named = named_new s key at whole given;
+      named = λ other.
+          let h = whole.named other in
+          let more = nodes_more other (new_entry key at) s.table in
+          let live = granted_live s.slab size at whole.sound some given other in
+          omega (arith, h, more, live);
       context = kept_context s slab keeps whole.context;
       name = kept_name s slab keeps whole.name;
       nodes = All-cons (HasNode slab) (new_entry key at) s.table (g.0.bytes ∙ sym (bytes_same s.slab slab size keeps.shape)) (kept_nodes s slab keeps whole.nodes);
@@ -171,31 +153,19 @@ entry_live s at e whole found =
 abbrev pub left_by : ConnState → ℕ → ConnState
 left_by s at = changed s (replace_first (is_at at) [] s.table) (give_back s.slab at)
 
-named_left : (s : ConnState) (at : ℕ) (e : ConnEntry) → IsWhole s → entry_at at s.table ≡ Some e → (other : ℕ) → named_at (left_by s at) other ≡ live_at (give_back s.slab at) other
-named_left s at e whole found other =
-    let slab = give_back s.slab at in
-    let r = give_back-returns s.slab at whole.sound (entry_live s at e whole found) in
-    let own = same_block at e (found_passes (is_at at) s.table e found) in
-    let h = whole.named other in
-    let sums = replaced_sum (node_weight other) (is_at at) [] s.table e found in
-    let nothing : nodes_at other [] ≡ 0 = refl in
-    elim (cases_eq other at) [
-      | inl same ↦
-        let one : once_at other e.block ≡ 1 = ap (λ (n : ℕ). once_at other n) (own ∙ sym same) ∙ once_here other in
-        let gone = live_none slab other (ap (λ (n : ℕ). live_bytes slab n) same ∙ r.gone) in
-        omega (arith, h, sums, nothing, one, gone, live_most s.slab other)
-      | inr ne ↦
-        let none = once_there other e.block (λ same. ne (same ∙ own)) in
-        let stays = live_same s.slab slab other (r.others other ne) in
-        omega (arith, h, sums, nothing, none, stays)
-    ]
-
 pub whole_left : (s : ConnState) (at : ℕ) (e : ConnEntry) → IsWhole s → entry_at at s.table ≡ Some e → IsWhole (left_by s at)
 whole_left s at e whole found =
     let slab = give_back s.slab at in
     let live = entry_live s at e whole found in
     let r = give_back-returns s.slab at whole.sound live in
-    let named = named_left s at e whole found in
+    let own = same_block at e (found_passes (is_at at) s.table e found) in
+    let named : (other : ℕ) → named_at (left_by s at) other ≡ live_at slab other = λ other.
+        let h = whole.named other in
+        let sums = replaced_sum (node_weight other) (is_at at) [] s.table e found in
+        let nothing : nodes_at other [] ≡ 0 = refl in
+        let here : once_at other e.block ≡ once_at other at = ap (λ (n : ℕ). once_at other n) own in
+        let gone = returned_live s.slab at whole.sound live other in
+        omega (arith, h, sums, nothing, here, gone) in
     let stay = changed s (replace_first (is_at at) [] s.table) s.slab in
     let keeps : Keeps stay slab = record {
       shape = back_shape s.slab at;
