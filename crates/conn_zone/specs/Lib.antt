@@ -4,5 +4,7 @@ pub mod State
 pub mod Step
 pub mod Object
 pub mod Holding
+pub mod Laws
+pub mod Rows
 pub mod Proving
 pub mod ObjectLaws

@@ -3,6 +3,7 @@
 
 pub mod calls;
 pub mod state;
+pub mod theorems;
 
 pub use calls::{ConnCall, ConnReply, ConnSpec};
 pub use state::{ConnEntry, ConnState};

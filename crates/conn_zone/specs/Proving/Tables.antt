@@ -13,7 +13,7 @@ use Rattle.conn_zone.specs.Table.{has_key, is_at, entry_of, entry_at, replace_fi
 use Rattle.conn_zone.specs.Object.{count_at, once_at}
 use Rattle.conn_zone.specs.Holding.{entries_of, nodes_at}
 
-some_same : {A : Type 0} (x y : A) → Some x ≡ Some y → x ≡ y
+pub some_same : {A : Type 0} (x y : A) → Some x ≡ Some y → x ≡ y
 some_same x y h = ap (elim [ | Some z ↦ z | None ↦ x ]) h
 
 -- ---- what is found

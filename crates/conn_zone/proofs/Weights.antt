@@ -1,0 +1,82 @@
+-- The connections of the keys of a table, and its keys and blocks.
+use Rattle.std.proofs.Common.{ℕ, ◌≡◌, ◌≢◌, ◌+◌, ◌-◌, ◌<◌, ◌≤◌, Bool, true, false, cond, List, [], ◌∷◌, ◌++◌, map, Option, Some, None, refl, sym, ap, subst, ◌∙◌, arith}
+use Rattle.std.specs.Prelude.{find, sum_by}
+use Rattle.std.specs.Str.{bytes_eq}
+use Rattle.conn_zone.specs.declared.state.ConnEntry.{ConnEntry}
+use Rattle.conn_zone.specs.Table.{has_key, entry_of, with_count, replace_first}
+use Rattle.conn_zone.specs.Holding.{entries_of}
+use Rattle.conn_zone.specs.Laws.{connections, nodes_of}
+use Rattle.conn_zone.specs.Proving.Tables.{some_same, found_passes, none_weighs, replaced_sum, key_weight, same_key}
+
+abbrev pub own_weight : List ℕ → ConnEntry → ℕ
+own_weight key entry = cond (has_key key entry) entry.count 0
+
+-- one connection more, or fewer
+pub one_more : (key : List ℕ) (e : ConnEntry) → own_weight key (with_count (e.count + 1) e) ≡ own_weight key e + cond (has_key key e) 1 0
+one_more key e = go (has_key key e) where
+  go : (b : Bool) → cond b (e.count + 1) 0 ≡ cond b e.count 0 + cond b 1 0
+  go true = refl
+  go false = refl
+
+pub one_less : (key : List ℕ) (e : ConnEntry) → 0 < e.count → own_weight key (with_count (e.count - 1) e) + cond (has_key key e) 1 0 ≡ own_weight key e
+one_less key e some = go (has_key key e) where
+  go : (b : Bool) → cond b (e.count - 1) 0 + cond b 1 0 ≡ cond b e.count 0
+  go true = omega (arith, some)
+  go false = refl
+
+pub the_last : (key : List ℕ) (e : ConnEntry) → e.count ≡ 1 → own_weight key e ≡ cond (has_key key e) 1 0
+the_last key e one = ap (λ (n : ℕ). cond (has_key key e) n 0) one
+
+-- what is found weighs at most what all weigh
+found_weighs : (weight : ConnEntry → ℕ) (test : ConnEntry → Bool) (table : List ConnEntry) (e : ConnEntry) → find test table ≡ Some e → weight e ≤ sum_by weight table
+found_weighs weight test table e found = let sums = replaced_sum weight test [] table e found in let nothing : sum_by weight [] ≡ 0 = refl in omega (arith, sums, nothing)
+
+key_one : (key : List ℕ) (table : List ConnEntry) (e : ConnEntry) → entry_of key table ≡ Some e → key_weight key e ≡ 1
+key_one key table e found = ap {B = ℕ} (λ (b : Bool). cond b 1 0) (found_passes (has_key key) table e found)
+
+-- a key that no entry has is missing
+pub none_found : (key : List ℕ) (table : List ConnEntry) → entries_of key table ≡ 0 → entry_of key table ≡ None
+none_found key table none = go (entry_of key table) refl where
+  go : (found : Option ConnEntry) → entry_of key table ≡ found → entry_of key table ≡ None
+  go None is = is
+  go (Some e) is = absurd (let weighs = found_weighs (key_weight key) (has_key key) table e is in let one = key_one key table e is in omega (arith, weighs, one, none))
+
+-- where its entry is taken out it is missing
+pub taken_out : (key : List ℕ) (test : ConnEntry → Bool) (table : List ConnEntry) (e : ConnEntry) → find test table ≡ Some e → has_key key e ≡ true → entries_of key table ≤ 1 → entry_of key (replace_first test [] table) ≡ None
+taken_out key test table e found own few =
+    let sums = replaced_sum (key_weight key) test [] table e found in
+    let nothing : entries_of key [] ≡ 0 = refl in
+    let one : key_weight key e ≡ 1 = ap {B = ℕ} (λ (b : Bool). cond b 1 0) own in
+    none_found key (replace_first test [] table) (omega (arith, sums, nothing, one, few))
+
+-- and the other keys have the entries that they had
+pub others_stay : (key : List ℕ) (test : ConnEntry → Bool) (table : List ConnEntry) (e : ConnEntry) → find test table ≡ Some e → has_key key e ≡ false → entry_of key (replace_first test [] table) ≡ entry_of key table
+others_stay key test [] e found other = refl
+others_stay key test (x ∷ xs) e found other = go (others_stay key test xs e) (test x) found where
+  go : (find test xs ≡ Some e → has_key key e ≡ false → entry_of key (replace_first test [] xs) ≡ entry_of key xs) → (b : Bool) → cond b (Some x) (find test xs) ≡ Some e
+      → entry_of key (cond b ([] ++ xs) (x ∷ replace_first test [] xs)) ≡ entry_of key (x ∷ xs)
+  go later true h = sym (ap (λ (b : Bool). cond b (Some x) (entry_of key xs)) (ap (has_key key) (some_same x e h) ∙ other))
+  go later false h = ap (cond (has_key key x) (Some x)) (later h other)
+
+-- where no other entry has its key, the connections of a key are those of its entry
+pub own_connections : (key : List ℕ) (table : List ConnEntry) (e : ConnEntry) → entry_of key table ≡ Some e → entries_of key table ≤ 1 → connections key table ≡ e.count
+own_connections key table e found few =
+    let own = found_passes (has_key key) table e found in
+    let gone = taken_out key (has_key key) table e found own few in
+    let rest = none_weighs (has_key key) (λ (e : ConnEntry). e.count) (replace_first (has_key key) [] table) gone in
+    let sums = replaced_sum (own_weight key) (has_key key) [] table e found in
+    let nothing : connections key [] ≡ 0 = refl in
+    let weighs : own_weight key e ≡ e.count = ap (λ (b : Bool). cond b e.count 0) own in
+    omega (arith, rest, sums, nothing, weighs)
+
+pub no_connections : (key : List ℕ) (table : List ConnEntry) → entry_of key table ≡ None → connections key table ≡ 0
+no_connections key table none = none_weighs (has_key key) (λ (e : ConnEntry). e.count) table none
+
+-- a count that changes changes no key and no block
+pub same_nodes : (test : ConnEntry → Bool) (count : ℕ) (table : List ConnEntry) (e : ConnEntry) → find test table ≡ Some e → nodes_of (replace_first test (with_count count e ∷ []) table) ≡ nodes_of table
+same_nodes test count [] e found = refl
+same_nodes test count (x ∷ xs) e found = go (same_nodes test count xs e) (test x) found where
+  go : (find test xs ≡ Some e → nodes_of (replace_first test (with_count count e ∷ []) xs) ≡ nodes_of xs) → (b : Bool) → cond b (Some x) (find test xs) ≡ Some e
+      → nodes_of (cond b (with_count count e ∷ xs) (x ∷ replace_first test (with_count count e ∷ []) xs)) ≡ nodes_of (x ∷ xs)
+  go later true h = ap (λ (y : ConnEntry). (y.key, y.block) ∷ nodes_of xs) (sym (some_same x e h))
+  go later false h = ap (λ (ns : List (List ℕ × ℕ)). (x.key, x.block) ∷ ns) (later h)

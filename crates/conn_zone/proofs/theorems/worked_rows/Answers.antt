@@ -1,0 +1,10 @@
+use Rattle.std.proofs.Common.{refl}
+use Rattle.slab_model.specs.Geometry.{start_of, pages_of, most_pages, class_of, class_size, pages_for, blocks_in_page, first_index, usable_blocks}
+use Rattle.slab_model.specs.Grant.{grant}
+use Rattle.slab_model.specs.Return.{give_back}
+use Rattle.conn_zone.specs.Rows.{OneAtOnceRow}
+use Rattle.conn_zone.proofs.theorems.worked_rows.Goals as goal
+
+pub returns : goal.returns
+unfolding start_of pages_of most_pages class_of class_size pages_for blocks_in_page first_index usable_blocks grant give_back
+returns c = refl
