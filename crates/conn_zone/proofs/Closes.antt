@@ -1,8 +1,8 @@
 -- What a close leaves.
-use Rattle.std.proofs.Common.{ℕ, ◌≡◌, ◌≢◌, ◌+◌, ◌-◌, ◌<◌, ◌≤◌, Bool, true, false, cond, eqb, List, [], ◌∷◌, Option, Some, None, refl, sym, ap, subst, ◌∙◌, arith}
+use Rattle.std.proofs.Common.{ℕ, ◌≡◌, ◌≢◌, ◌+◌, ◌-◌, ◌<◌, ◌≤◌, Bool, true, false, cond, eqb, List, [], ◌∷◌, Option, Some, None, refl, sym, ap, subst, ◌∙◌, arith, rules}
 use Rattle.std.specs.Str.{bytes_eq}
 use Rattle.std.proofs.lemmas.Bool.{eqb-true, eqb-false}
-use Rattle.std.proofs.lemmas.Slice.Eq.{bytes_eq-refl}
+use Rattle.std.proofs.lemmas.Slice.Eq.{bytes_eq-Decides}
 use Rattle.slab_model.specs.State.{Slab}
 use Rattle.slab_model.specs.Blocks.{live_bytes}
 use Rattle.slab_model.specs.Return.{give_back}
@@ -54,12 +54,15 @@ close_counts-law s at e other found some = go (eqb (e.count - 1) 0) refl where
 
 -- ---- which entries it leaves
 
+own_key : (key : List ℕ) → bytes_eq key key ≡ true
+own_key key = search (rules, bytes_eq-Decides)
+
 pub last_close-law : LastCloseLaw
 last_close-law s at e whole found one =
     let own : e.block ≡ at = same_block at e (found_passes (is_at at) s.table e found) in
     let returned = give_back-returns s.slab at whole.sound (entry_live s at e whole found) in
     let left : Leaves s e (left_by s at) = record {
-      gone = taken_out e.key (is_at at) s.table e found (bytes_eq-refl e.key) (whole.keys e.key);
+      gone = taken_out e.key (is_at at) s.table e found (own_key e.key) (whole.keys e.key);
       others = λ key ne. others_stay key (is_at at) s.table e found (is_other key ne (has_key key e) refl);
       slab = ap (give_back s.slab) (sym own);
       freed = ap (live_bytes (give_back s.slab at)) own ∙ returned.gone;

@@ -5,6 +5,9 @@ use Rattle.slab_model.specs.Return.{give_back}
 use Rattle.conn_zone.specs.Rows.{OneAtOnceRow}
 use Rattle.conn_zone.proofs.theorems.worked_rows.Goals as goal
 
-pub returns : goal.returns
+one_at_once_row : OneAtOnceRow
 unfolding start_of pages_of most_pages class_of class_size pages_for blocks_in_page first_index usable_blocks grant give_back
-returns c = refl
+one_at_once_row = refl
+
+pub returns : goal.returns
+returns c = record { one_at_once = one_at_once_row }
