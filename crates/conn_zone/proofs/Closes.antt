@@ -1,8 +1,6 @@
 -- What a close leaves.
-use Rattle.std.proofs.Common.{ℕ, ◌≡◌, ◌≢◌, ◌+◌, ◌-◌, ◌<◌, ◌≤◌, Bool, true, false, cond, eqb, List, [], ◌∷◌, Option, Some, None, refl, sym, ap, subst, ◌∙◌, arith, rules}
-use Rattle.std.specs.Str.{bytes_eq}
+use Rattle.std.proofs.Common.{ℕ, ◌≡◌, ◌≢◌, ◌+◌, ◌-◌, ◌<◌, ◌≤◌, Bool, true, false, cond, eqb, List, [], ◌∷◌, Option, Some, None, refl, sym, ap, subst, ◌∙◌, arith}
 use Rattle.std.proofs.lemmas.Bool.{eqb-true, eqb-false}
-use Rattle.std.proofs.lemmas.Slice.Eq.{bytes_eq-Decides}
 use Rattle.slab_model.specs.State.{Slab}
 use Rattle.slab_model.specs.Blocks.{live_bytes}
 use Rattle.slab_model.specs.Return.{give_back}
@@ -19,7 +17,7 @@ use Rattle.conn_zone.specs.Laws.{connections, CloseCountsLaw, nodes_of, Leaves, 
 use Rattle.conn_zone.specs.Proving.Tables.{found_passes, replaced_sum, sum_one, same_key, same_block}
 use Rattle.conn_zone.specs.Proving.Wholes.{left_by, entry_live}
 use Rattle.conn_zone.specs.Proving.Steps.{left_as}
-use Rattle.conn_zone.proofs.Weights.{own_weight, one_less, the_last, taken_out, others_stay, same_nodes}
+use Rattle.conn_zone.proofs.Weights.{own_weight, own_key, one_less, the_last, taken_out, others_stay, same_nodes}
 
 -- what a close comes to
 abbrev came_to : ConnState → ℕ → ConnReply × State Slab
@@ -53,9 +51,6 @@ close_counts-law s at e other found some = go (eqb (e.count - 1) 0) refl where
       subst (Counts s other e) (sym (closes s at e false found is)) (omega (arith, sums, one, less))
 
 -- ---- which entries it leaves
-
-own_key : (key : List ℕ) → bytes_eq key key ≡ true
-own_key key = search (rules, bytes_eq-Decides)
 
 pub last_close-law : LastCloseLaw
 last_close-law s at e whole found one =

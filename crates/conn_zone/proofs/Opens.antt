@@ -2,7 +2,7 @@
 use Rattle.std.proofs.Common.{ℕ, ◌≡◌, ◌+◌, ◌<◌, ◌≤◌, ◌⊎◌, Bool, true, false, cond, leb, List, [], ◌∷◌, ◌++◌, length, map, Option, Some, None, refl, sym, ap, subst, ◌∙◌, inl, inr, arith}
 use Rattle.std.specs.Prelude.{find, sum_by}
 use Rattle.std.specs.Str.{bytes_eq}
-use Rattle.std.proofs.lemmas.Bool.{leb-true, leb-false, le-leb}
+use Rattle.std.proofs.lemmas.Bool.{leb-true, leb-false, eq-eqb}
 use Rattle.std.proofs.lemmas.List.Sums.{sum_by-cons}
 use Rattle.slab_model.specs.State.{Slab}
 use Rattle.slab_model.specs.Grant.{grant}
@@ -14,14 +14,16 @@ use Rattle.conn_zone.specs.declared.calls.ConnCall.TheVariants.{Open}
 use Rattle.conn_zone.specs.declared.calls.ConnReply.{ConnReply}
 use Rattle.conn_zone.specs.declared.calls.ConnReply.TheVariants.{Opened, AtLimit, NoRoom, Closed}
 use Rattle.conn_zone.specs.State.{State}
-use Rattle.conn_zone.specs.Table.{has_key, entry_of, with_count, replace_first}
+use Rattle.conn_zone.specs.Table.{has_key, entry_of, entry_at, with_count, replace_first}
 use Rattle.conn_zone.specs.Step.{node_size, new_entry, open_as}
 use Rattle.conn_zone.specs.Object.{parts_of, with_parts, answer_of, zone_after}
-use Rattle.conn_zone.specs.Holding.{entries_of, IsWhole}
-use Rattle.conn_zone.specs.Laws.{IsAtLimit, AtLimitLaw, AtLimitKeepsLaw, HasNoRoom, NoRoomLaw, asked_for, NoRoomKeepsLaw, connections, opened_by, OpenCountsLaw, OpenedLaw, nodes_of, EvictsNothingLaw}
-use Rattle.conn_zone.specs.Proving.Tables.{some_same, found_passes, none_weighs, replaced_sum, sum_one, same_key, key_weight}
+use Rattle.conn_zone.specs.Holding.{nodes_at, IsWhole}
+use Rattle.conn_zone.specs.Laws.{IsAtLimit, AtLimitLaw, AtLimitKeepsLaw, HasNoRoom, NoRoomLaw, asked_for, NoRoomKeepsLaw, connections, opened_by, OpenCountsLaw, HasOpened, OpenedLaw, nodes_of, EvictsNothingLaw}
+use Rattle.conn_zone.specs.Proving.Tables.{found_passes, replaced_sum, sum_one, same_key}
+use Rattle.conn_zone.specs.Proving.Blocks.{live_most}
+use Rattle.conn_zone.specs.Proving.Wholes.{whole_counted}
 use Rattle.conn_zone.specs.Proving.Steps.{found_as, missing_as}
-use Rattle.conn_zone.proofs.Weights.{own_weight, one_more, own_connections, no_connections, same_nodes}
+use Rattle.conn_zone.proofs.Weights.{own_weight, own_key, one_more, own_connections, no_connections, same_nodes, replaced_found, found_at_block}
 
 -- ---- the ways in which an open can end
 
@@ -52,26 +54,64 @@ ends s key limit = go (entry_of key s.table) refl where
 
 -- ---- what it answers
 
-count_in : ConnReply → ℕ
+abbrev count_in : ConnReply → ℕ
 count_in (Opened at count) = count
 count_in (AtLimit count) = count
 count_in NoRoom = 0
 count_in (Closed count) = count
 
+abbrev block_in : ConnReply → ℕ
+block_in (Opened at count) = at
+block_in (AtLimit count) = 0
+block_in NoRoom = 0
+block_in (Closed count) = 0
+
+-- at most one entry of a whole zone has this block
+one_node : (s : ConnState) (at : ℕ) → IsWhole s → nodes_at at s.table ≤ 1
+one_node s at whole = let h = whole.named at in let most = live_most s.slab at in omega (arith, h, most)
+
+-- one connection more of a key that is there
+opened_below : (s : ConnState) (key : List ℕ) (e : ConnEntry) → IsWhole s → entry_of key s.table ≡ Some e → HasOpened s (with_parts s (found_as key s e false).1) key e.block (e.count + 1)
+opened_below s key e whole found =
+    let new = with_count (e.count + 1) e in
+    let after = with_parts s (found_as key s e false).1 in
+    let own = found_passes (has_key key) s.table e found in
+    let same : Some new ≡ Some (record { key = key; block = e.block; count = e.count + 1 }) = ap (λ (k : List ℕ). Some (record { key = k; block = e.block; count = e.count + 1 })) (sym (same_key key e.key own)) in
+    let again : entry_of key after.table ≡ Some new = replaced_found (has_key key) new s.table e found own in
+    let whole_after = whole_counted s (has_key key) e (e.count + 1) whole found in
+    let connected = own_connections key s.table e found (whole.keys key) in
+    record {
+      counted = omega (arith, connected);
+      by_key = again ∙ same;
+      by_block = found_at_block (has_key key) after.table new again (one_node after e.block whole_after) ∙ same;
+    }
+
+-- the first connection of a key
+opened_new : (s : ConnState) (key : List ℕ) (at : ℕ) → entry_of key s.table ≡ None → HasOpened s (with_parts s (missing_as key s (Some at)).1) key at 1
+opened_new s key at missing = record {
+  counted = let none = no_connections key s.table missing in omega (arith, none);
+  by_key = ap (λ (b : Bool). cond b (Some (new_entry key at)) (entry_of key s.table)) (own_key key);
+  by_block = ap (λ (b : Bool). cond b (Some (new_entry key at)) (entry_at at s.table)) (eq-eqb at at refl);
+}
+
+abbrev HasOpenedBy : ConnState → List ℕ → ℕ → ℕ → ConnReply × State Slab → Type 0
+HasOpenedBy s key at count r = HasOpened s (with_parts s r.1) key at count
+
 pub opened-law : OpenedLaw
-unfolding count_in
 opened-law s key limit at count whole is = go (ends s key limit) where
-  go : Ends s key limit → count ≡ connections key s.table + 1
+  go : Ends s key limit → HasOpenedBy s key at count (came_to s key limit)
   go (at_limit e found reached came) = absurd (let h = ap (λ (r : ConnReply × State Slab). r.0) came in cc)
   go (below e found less came) =
-      let same : e.count + 1 ≡ count = ap (λ (r : ConnReply × State Slab). count_in r.0) (sym came) ∙ ap count_in is in
-      let own = own_connections key s.table e found (whole.keys key) in
-      omega (arith, same, own)
+      let block : e.block ≡ at = ap (λ (r : ConnReply × State Slab). block_in r.0) (sym came) ∙ ap block_in is in
+      let counted : e.count + 1 ≡ count = ap (λ (r : ConnReply × State Slab). count_in r.0) (sym came) ∙ ap count_in is in
+      let opened = opened_below s key e whole found in
+      subst (HasOpenedBy s key at count) (sym came) (subst (λ (n : ℕ). HasOpenedBy s key n count (found_as key s e false)) block (subst (λ (n : ℕ). HasOpenedBy s key e.block n (found_as key s e false)) counted opened))
   go (no_room missing none came) = absurd (let h = ap (λ (r : ConnReply × State Slab). r.0) came in cc)
   go (new to missing given came) =
-      let same : 1 ≡ count = ap (λ (r : ConnReply × State Slab). count_in r.0) (sym came) ∙ ap count_in is in
-      let none = no_connections key s.table missing in
-      omega (arith, same, none)
+      let block : to ≡ at = ap (λ (r : ConnReply × State Slab). block_in r.0) (sym came) ∙ ap block_in is in
+      let counted : 1 ≡ count = ap (λ (r : ConnReply × State Slab). count_in r.0) (sym came) ∙ ap count_in is in
+      let opened = opened_new s key to missing in
+      subst (HasOpenedBy s key at count) (sym came) (subst (λ (n : ℕ). HasOpenedBy s key n count (missing_as key s (Some to))) block (subst (λ (n : ℕ). HasOpenedBy s key to n (missing_as key s (Some to))) counted opened))
 
 -- ---- what it counts
 

@@ -1,15 +1,21 @@
 -- The connections of the keys of a table, and its keys and blocks.
-use Rattle.std.proofs.Common.{ℕ, ◌≡◌, ◌≢◌, ◌+◌, ◌-◌, ◌<◌, ◌≤◌, Bool, true, false, cond, List, [], ◌∷◌, ◌++◌, map, Option, Some, None, refl, sym, ap, subst, ◌∙◌, arith}
+use Rattle.std.proofs.Common.{ℕ, ◌≡◌, ◌≢◌, ◌+◌, ◌-◌, ◌<◌, ◌≤◌, Bool, true, false, cond, List, [], ◌∷◌, ◌++◌, map, Option, Some, None, refl, sym, ap, subst, ◌∙◌, arith, rules}
 use Rattle.std.specs.Prelude.{find, sum_by}
 use Rattle.std.specs.Str.{bytes_eq}
+use Rattle.std.proofs.lemmas.Bool.{eq-eqb, ne_eqb}
+use Rattle.std.proofs.lemmas.Slice.Eq.{bytes_eq-Decides}
 use Rattle.conn_zone.specs.declared.state.ConnEntry.{ConnEntry}
-use Rattle.conn_zone.specs.Table.{has_key, entry_of, with_count, replace_first}
-use Rattle.conn_zone.specs.Holding.{entries_of}
+use Rattle.conn_zone.specs.Object.{once_at}
+use Rattle.conn_zone.specs.Table.{has_key, is_at, entry_of, entry_at, with_count, replace_first}
+use Rattle.conn_zone.specs.Holding.{entries_of, nodes_at}
 use Rattle.conn_zone.specs.Laws.{connections, nodes_of}
-use Rattle.conn_zone.specs.Proving.Tables.{some_same, found_passes, none_weighs, replaced_sum, key_weight, same_key}
+use Rattle.conn_zone.specs.Proving.Tables.{some_same, found_passes, none_weighs, replaced_sum, key_weight, node_weight, nodes_more, once_here, same_key}
 
 abbrev pub own_weight : List ℕ → ConnEntry → ℕ
 own_weight key entry = cond (has_key key entry) entry.count 0
+
+pub own_key : (key : List ℕ) → bytes_eq key key ≡ true
+own_key key = search (rules, bytes_eq-Decides)
 
 -- one connection more, or fewer
 pub one_more : (key : List ℕ) (e : ConnEntry) → own_weight key (with_count (e.count + 1) e) ≡ own_weight key e + cond (has_key key e) 1 0
@@ -80,3 +86,29 @@ same_nodes test count (x ∷ xs) e found = go (same_nodes test count xs e) (test
       → nodes_of (cond b (with_count count e ∷ xs) (x ∷ replace_first test (with_count count e ∷ []) xs)) ≡ nodes_of (x ∷ xs)
   go later true h = ap (λ (y : ConnEntry). (y.key, y.block) ∷ nodes_of xs) (sym (some_same x e h))
   go later false h = ap (λ (ns : List (List ℕ × ℕ)). (x.key, x.block) ∷ ns) (later h)
+
+-- ---- the entry that was counted is found again
+
+pub replaced_found : (test : ConnEntry → Bool) (new : ConnEntry) (table : List ConnEntry) (e : ConnEntry) → find test table ≡ Some e → test new ≡ true → find test (replace_first test (new ∷ []) table) ≡ Some new
+replaced_found test new [] e found is = absurd (cc)
+replaced_found test new (x ∷ xs) e found is = go (replaced_found test new xs e) (test x) refl found where
+  go : (find test xs ≡ Some e → test new ≡ true → find test (replace_first test (new ∷ []) xs) ≡ Some new) → (b : Bool) → test x ≡ b → cond b (Some x) (find test xs) ≡ Some e
+      → find test (cond b (new ∷ xs) (x ∷ replace_first test (new ∷ []) xs)) ≡ Some new
+  go later true own h = ap (λ (b : Bool). cond b (Some new) (find test xs)) is
+  go later false own h = ap (λ (b : Bool). cond b (Some x) (find test (replace_first test (new ∷ []) xs))) own ∙ later h is
+
+-- and it is the entry of its block, where no other has that block
+pub found_at_block : (test : ConnEntry → Bool) (table : List ConnEntry) (e : ConnEntry) → find test table ≡ Some e → nodes_at e.block table ≤ 1 → entry_at e.block table ≡ Some e
+found_at_block test [] e found few = absurd (cc)
+found_at_block test (x ∷ xs) e found few = go (found_at_block test xs e) (test x) found where
+  go : (find test xs ≡ Some e → nodes_at e.block xs ≤ 1 → entry_at e.block xs ≡ Some e) → (b : Bool) → cond b (Some x) (find test xs) ≡ Some e → entry_at e.block (x ∷ xs) ≡ Some e
+  go later true h =
+      let same = some_same x e h in
+      let own : is_at e.block x ≡ true = ap (is_at e.block) same ∙ eq-eqb e.block e.block refl in
+      ap (λ (b : Bool). cond b (Some x) (entry_at e.block xs)) own ∙ ap (λ (y : ConnEntry). Some y) same
+  go later false h =
+      let more = nodes_more e.block x xs in
+      let weighs = found_weighs (node_weight e.block) test xs e h in
+      let here = once_here e.block in
+      let apart : is_at e.block x ≡ false = ne_eqb x.block e.block (λ same. absurd (let one = ap (λ (n : ℕ). once_at e.block n) same ∙ here in omega (arith, more, weighs, here, one, few))) in
+      ap (λ (b : Bool). cond b (Some x) (entry_at e.block xs)) apart ∙ later h (omega (arith, more, few))

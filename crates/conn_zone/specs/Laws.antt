@@ -67,9 +67,15 @@ opened_by (Closed count) = 0
 abbrev pub OpenCountsLaw : Type 0
 OpenCountsLaw = (s : ConnState) (key : List ℕ) (limit : ℕ) (other : List ℕ) → connections other (zone_after s (Open key limit)).table ≡ connections other s.table + (if bytes_eq other key then opened_by (answer_of s (Open key limit)) else 0)
 
+-- the key has one connection more than before, and its entry is the one of this block
+pub record HasOpened (s after : ConnState) (key : List ℕ) (at count : ℕ) : Type 0 where
+  pub counted : count ≡ connections key s.table + 1
+  pub by_key : entry_of key after.table ≡ Some (record { key = key; block = at; count = count })
+  pub by_block : entry_at at after.table ≡ Some (record { key = key; block = at; count = count })
+
 -- what an open answers that is counted
 abbrev pub OpenedLaw : Type 0
-OpenedLaw = (s : ConnState) (key : List ℕ) (limit at count : ℕ) → IsWhole s → answer_of s (Open key limit) ≡ Opened at count → count ≡ connections key s.table + 1
+OpenedLaw = (s : ConnState) (key : List ℕ) (limit at count : ℕ) → IsWhole s → answer_of s (Open key limit) ≡ Opened at count → HasOpened s (zone_after s (Open key limit)) key at count
 
 -- a close takes one connection from the key of its entry
 abbrev pub CloseCountsLaw : Type 0

@@ -4,7 +4,7 @@ ghost use Rattle.conn_zone.specs.declared.state.ConnState.{ConnState};
 ghost use Rattle.conn_zone.specs.Object.{Made, IsOpened, answer_of, zone_after, Permits, Ready};
 ghost use Rattle.conn_zone.specs.Holding.{Holds};
 ghost use Rattle.conn_zone.specs.Laws.{AtLimitLaw, AtLimitKeepsLaw, NoRoomLaw, NoRoomKeepsLaw, OpenCountsLaw, OpenedLaw, CloseCountsLaw, ClosedLaw, EvictsNothingLaw, LastCloseLaw, OtherCloseLaw, AnswerLaw, StartLaw};
-ghost use Rattle.conn_zone.specs.Rows.{OneAtOnceRow};
+ghost use Rattle.conn_zone.specs.Rows.{OneAtOnceRow, FullRow};
 
 /// What holds of every call of a connection zone, as theorems over the definitions. Nothing runs.
 pub fn laws()
@@ -33,4 +33,5 @@ pub fn histories<X>()
 /// Worked rows, which the definitions compute. Nothing runs.
 pub fn worked_rows()
     ensures one_at_once { OneAtOnceRow }
+    ensures full { FullRow }
 {}
