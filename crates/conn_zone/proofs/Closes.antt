@@ -1,6 +1,6 @@
 -- What a close leaves.
-use Rattle.std.proofs.Common.{ℕ, ◌≡◌, ◌≢◌, ◌+◌, ◌-◌, ◌<◌, ◌≤◌, Bool, true, false, cond, eqb, List, [], ◌∷◌, Option, Some, None, refl, sym, ap, subst, ◌∙◌, arith}
-use Rattle.std.proofs.lemmas.Bool.{eqb-true, eqb-false}
+use Rattle.std.proofs.Common.{ℕ, ◌≡◌, ◌≢◌, ◌+◌, ◌-◌, Bool, true, false, cond, eqb, List, [], ◌∷◌, Some, refl, sym, ap, subst, ◌∙◌, arith}
+use Rattle.std.proofs.lemmas.Bool.{eqb-true}
 use Rattle.slab_model.specs.State.{Slab}
 use Rattle.slab_model.specs.Blocks.{live_bytes}
 use Rattle.slab_model.specs.Return.{give_back}
@@ -10,7 +10,7 @@ use Rattle.conn_zone.specs.declared.state.ConnEntry.{ConnEntry}
 use Rattle.conn_zone.specs.declared.state.ConnState.{ConnState}
 use Rattle.conn_zone.specs.declared.calls.ConnReply.{ConnReply}
 use Rattle.conn_zone.specs.State.{State}
-use Rattle.conn_zone.specs.Table.{has_key, is_at, entry_of, entry_at, with_count, replace_first}
+use Rattle.conn_zone.specs.Table.{has_key, is_at, entry_at, with_count}
 use Rattle.conn_zone.specs.Step.{close_as}
 use Rattle.conn_zone.specs.Object.{parts_of, with_parts}
 use Rattle.conn_zone.specs.Laws.{connections, CloseCountsLaw, nodes_of, Leaves, LastCloseLaw, OtherCloseLaw}

@@ -1,6 +1,5 @@
 -- What an open answers and leaves.
-use Rattle.std.proofs.Common.{ℕ, ◌≡◌, ◌+◌, ◌<◌, ◌≤◌, ◌⊎◌, Bool, true, false, cond, leb, List, [], ◌∷◌, ◌++◌, length, map, Option, Some, None, refl, sym, ap, subst, ◌∙◌, inl, inr, arith}
-use Rattle.std.specs.Prelude.{find, sum_by}
+use Rattle.std.proofs.Common.{ℕ, ◌≡◌, ◌+◌, ◌<◌, ◌≤◌, ◌⊎◌, Bool, true, false, cond, leb, List, [], ◌∷◌, length, Option, Some, None, refl, sym, ap, subst, ◌∙◌, inl, inr, arith}
 use Rattle.std.specs.Str.{bytes_eq}
 use Rattle.std.proofs.lemmas.Bool.{leb-true, leb-false, eq-eqb}
 use Rattle.std.proofs.lemmas.List.Sums.{sum_by-cons}
@@ -9,16 +8,14 @@ use Rattle.slab_model.specs.Grant.{grant}
 use Rattle.slab_model.specs.Store.{slab_store}
 use Rattle.conn_zone.specs.declared.state.ConnEntry.{ConnEntry}
 use Rattle.conn_zone.specs.declared.state.ConnState.{ConnState}
-use Rattle.conn_zone.specs.declared.calls.ConnCall.{ConnCall}
-use Rattle.conn_zone.specs.declared.calls.ConnCall.TheVariants.{Open}
 use Rattle.conn_zone.specs.declared.calls.ConnReply.{ConnReply}
 use Rattle.conn_zone.specs.declared.calls.ConnReply.TheVariants.{Opened, AtLimit, NoRoom, Closed}
 use Rattle.conn_zone.specs.State.{State}
-use Rattle.conn_zone.specs.Table.{has_key, entry_of, entry_at, with_count, replace_first}
+use Rattle.conn_zone.specs.Table.{has_key, entry_of, entry_at, with_count}
 use Rattle.conn_zone.specs.Step.{node_size, new_entry, open_as}
-use Rattle.conn_zone.specs.Object.{parts_of, with_parts, answer_of, zone_after}
+use Rattle.conn_zone.specs.Object.{parts_of, with_parts}
 use Rattle.conn_zone.specs.Holding.{nodes_at, IsWhole}
-use Rattle.conn_zone.specs.Laws.{IsAtLimit, AtLimitLaw, AtLimitKeepsLaw, HasNoRoom, NoRoomLaw, asked_for, NoRoomKeepsLaw, connections, opened_by, OpenCountsLaw, HasOpened, OpenedLaw, nodes_of, EvictsNothingLaw}
+use Rattle.conn_zone.specs.Laws.{connections, opened_by, OpenCountsLaw, HasOpened, OpenedLaw, nodes_of, EvictsNothingLaw}
 use Rattle.conn_zone.specs.Proving.Tables.{found_passes, replaced_sum, sum_one, same_key}
 use Rattle.conn_zone.specs.Proving.Blocks.{live_most}
 use Rattle.conn_zone.specs.Proving.Wholes.{whole_counted}

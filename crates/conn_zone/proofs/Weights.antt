@@ -1,5 +1,5 @@
 -- The connections of the keys of a table, and its keys and blocks.
-use Rattle.std.proofs.Common.{ℕ, ◌≡◌, ◌≢◌, ◌+◌, ◌-◌, ◌<◌, ◌≤◌, Bool, true, false, cond, List, [], ◌∷◌, ◌++◌, map, Option, Some, None, refl, sym, ap, subst, ◌∙◌, arith, rules}
+use Rattle.std.proofs.Common.{ℕ, ◌≡◌, ◌+◌, ◌-◌, ◌<◌, ◌≤◌, Bool, true, false, cond, List, [], ◌∷◌, ◌++◌, Option, Some, None, refl, sym, ap, ◌∙◌, arith, rules}
 use Rattle.std.specs.Prelude.{find, sum_by}
 use Rattle.std.specs.Str.{bytes_eq}
 use Rattle.std.proofs.lemmas.Bool.{eq-eqb, ne_eqb}
@@ -9,7 +9,7 @@ use Rattle.conn_zone.specs.Object.{once_at}
 use Rattle.conn_zone.specs.Table.{has_key, is_at, entry_of, entry_at, with_count, replace_first}
 use Rattle.conn_zone.specs.Holding.{entries_of, nodes_at}
 use Rattle.conn_zone.specs.Laws.{connections, nodes_of}
-use Rattle.conn_zone.specs.Proving.Tables.{some_same, found_passes, none_weighs, replaced_sum, key_weight, node_weight, nodes_more, once_here, same_key}
+use Rattle.conn_zone.specs.Proving.Tables.{some_same, found_passes, none_weighs, replaced_sum, key_weight, node_weight, nodes_more, once_here}
 
 abbrev pub own_weight : List ℕ → ConnEntry → ℕ
 own_weight key entry = cond (has_key key entry) entry.count 0

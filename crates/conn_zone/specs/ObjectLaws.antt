@@ -1,5 +1,5 @@
 -- The laws of a connection zone as an object.
-use Rattle.std.proofs.Common.{◌≡◌, ℕ, ◌+◌, ◌<◌, ◌≤◌, ◌⊎◌, Bool, true, false, cond, eqb, List, [], ◌∷◌, ◌++◌, refl, sym, ap, subst, ◌∙◌, inl, inr, arith}
+use Rattle.std.proofs.Common.{◌≡◌, ℕ, ◌+◌, ◌<◌, ◌≤◌, ◌⊎◌, List, [], ◌∷◌, ◌++◌, refl, sym, ap, subst, ◌∙◌, inl, inr, arith}
 use Rattle.std.specs.Prelude.{sum_by}
 use Rattle.std.specs.List.{All}
 use Rattle.std.proofs.lemmas.Bool.{cases_eq}
@@ -27,9 +27,9 @@ module _ {X : Type 0} where
     go (Open key limit) is h = inl (ap (back_by at) is)
     go (Close to) is h = elim (cases_eq at to) [
       | inl same ↦
-        let one : back at e ≡ 1 = ap (back_by at) is ∙ ap (λ (n : ℕ). once_at n to) same ∙ once_here to in
-        let less : sum_by (back at) mine < sum_by (given at) mine = subst (λ (n : ℕ). sum_by (back n) mine < sum_by (given n) mine) (sym same) h in
-        inr (omega (arith, one, less))
+          let one : back at e ≡ 1 = ap (back_by at) is ∙ ap (λ (n : ℕ). once_at n to) same ∙ once_here to in
+          let less : sum_by (back at) mine < sum_by (given at) mine = subst (λ (n : ℕ). sum_by (back n) mine < sum_by (given n) mine) (sym same) h in
+          inr (omega (arith, one, less))
       | inr ne ↦ inl (ap (back_by at) is ∙ once_there at to ne)
     ]
 

@@ -45,7 +45,7 @@ abbrev pub close_to : {S : Type 0} → BlockStore S → ℕ → ℕ → ConnEntr
 close_to store at left entry state = (
   Closed left,
   (if nat_eq left 0 then record { table = replace_first (is_at at) [] state.table; memory = store.give_back state.memory at }
-   else record { table = replace_first (is_at at) (with_count left entry ∷ []) state.table; memory = state.memory }),
+      else record { table = replace_first (is_at at) (with_count left entry ∷ []) state.table; memory = state.memory }),
 )
 
 -- nobody closes an entry that isn't there

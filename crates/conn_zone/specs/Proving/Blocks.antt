@@ -90,14 +90,14 @@ granted_live slab size at sound some given other =
     let g = grant-grants slab size at sound some given in
     elim (cases_eq other at) [
       | inl same ↦
-        let one : once_at other at ≡ 1 = ap (λ (n : ℕ). once_at n at) same ∙ once_here at in
-        let was = live_none slab other (ap (λ (n : ℕ). live_bytes slab n) same ∙ g.0.fresh) in
-        let now = live_some new other (let b = ap (λ (n : ℕ). live_bytes new n) same ∙ g.0.bytes in omega (arith, b, g.1, some)) in
-        omega (arith, one, was, now)
+          let one : once_at other at ≡ 1 = ap (λ (n : ℕ). once_at n at) same ∙ once_here at in
+          let was = live_none slab other (ap (λ (n : ℕ). live_bytes slab n) same ∙ g.0.fresh) in
+          let now = live_some new other (let b = ap (λ (n : ℕ). live_bytes new n) same ∙ g.0.bytes in omega (arith, b, g.1, some)) in
+          omega (arith, one, was, now)
       | inr ne ↦
-        let none = once_there other at ne in
-        let stays = live_same slab new other (g.0.others other ne) in
-        omega (arith, none, stays)
+          let none = once_there other at ne in
+          let stays = live_same slab new other (g.0.others other ne) in
+          omega (arith, none, stays)
     ]
 
 -- and a return takes one away
@@ -107,12 +107,12 @@ returned_live slab at sound live other =
     let r = give_back-returns slab at sound live in
     elim (cases_eq other at) [
       | inl same ↦
-        let one : once_at other at ≡ 1 = ap (λ (n : ℕ). once_at n at) same ∙ once_here at in
-        let was = live_some slab other (subst (λ (n : ℕ). 0 < live_bytes slab n) (sym same) live) in
-        let gone = live_none new other (ap (λ (n : ℕ). live_bytes new n) same ∙ r.gone) in
-        omega (arith, one, was, gone)
+          let one : once_at other at ≡ 1 = ap (λ (n : ℕ). once_at n at) same ∙ once_here at in
+          let was = live_some slab other (subst (λ (n : ℕ). 0 < live_bytes slab n) (sym same) live) in
+          let gone = live_none new other (ap (λ (n : ℕ). live_bytes new n) same ∙ r.gone) in
+          omega (arith, one, was, gone)
       | inr ne ↦
-        let none = once_there other at ne in
-        let stays = live_same slab new other (r.others other ne) in
-        omega (arith, none, stays)
+          let none = once_there other at ne in
+          let stays = live_same slab new other (r.others other ne) in
+          omega (arith, none, stays)
     ]

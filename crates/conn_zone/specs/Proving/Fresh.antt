@@ -1,7 +1,6 @@
 -- A zone that was just opened.
-use Rattle.std.proofs.Common.{ℕ, ◌≡◌, ◌≢◌, ◌+◌, ◌<◌, ◌≤◌, Bool, true, false, cond, List, [], ◌∷◌, length, Option, Some, None, refl, sym, ap, subst, ◌∙◌, arith}
+use Rattle.std.proofs.Common.{ℕ, ◌≡◌, ◌≢◌, ◌+◌, ◌<◌, ◌≤◌, Bool, true, false, cond, List, [], ◌∷◌, Option, Some, None, refl, sym, ap, subst, ◌∙◌, arith}
 use Rattle.std.specs.Prelude.{is_some, unwrap_or}
-use Rattle.std.specs.List.{All}
 use Rattle.std.proofs.lemmas.Grind.{common_steps}
 use Rattle.std.proofs.lemmas.List.Elements.{All-nil}
 use Rattle.slab_model.specs.declared.runs.Run.{Run}
@@ -11,16 +10,15 @@ use Rattle.slab_model.specs.Runs.{first_fit, page_total}
 use Rattle.slab_model.specs.State.{Slab, fresh_slab, list_of}
 use Rattle.slab_model.specs.Blocks.{live_bytes}
 use Rattle.slab_model.specs.Counting.{free_pages}
-use Rattle.slab_model.specs.Grant.{grant, fits, fits_as, is_empty, block_bytes}
-use Rattle.slab_model.specs.Laws.{pages_taken, pages_taken_as}
-use Rattle.slab_model.specs.Soundness.{IsSound}
+use Rattle.slab_model.specs.Grant.{grant, fits, fits_as, is_empty}
+use Rattle.slab_model.specs.Laws.{pages_taken_as}
 use Rattle.slab_model.proofs.ClassLemmas.{class_of-none}
 use Rattle.slab_model.proofs.Laws.{grant-sound, fits-grant}
 use Rattle.slab_model.proofs.BlockLaws.{fresh-law, grant-grants}
 use Rattle.slab_model.proofs.CountLaws.{grant_pages-law}
 use Rattle.conn_zone.specs.declared.state.ConnState.{ConnState}
 use Rattle.conn_zone.specs.Object.{once_at, context_size, name_size, with_context, with_name, opened_zone, IsName, IsOpened, IsOpenedAs}
-use Rattle.conn_zone.specs.Holding.{nodes_at, live_at, HasNode, IsWhole}
+use Rattle.conn_zone.specs.Holding.{nodes_at, HasNode, IsWhole}
 use Rattle.conn_zone.specs.Proving.Blocks.{grant_shape, bytes_same, live_none, granted_live}
 
 -- ---- a request of less than a page in a slab with a free page

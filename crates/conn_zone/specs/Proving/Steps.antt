@@ -1,8 +1,7 @@
 -- What a call leaves whole, and what it gives and takes.
-use Rattle.std.proofs.Common.{ℕ, zero, ◌≡◌, ◌+◌, ◌-◌, ◌<◌, ◌≤◌, Bool, true, false, cond, eqb, leb, List, [], ◌∷◌, length, Option, Some, None, refl, sym, ap, subst, ◌∙◌, arith}
+use Rattle.std.proofs.Common.{ℕ, zero, ◌≡◌, ◌+◌, ◌-◌, ◌<◌, Bool, true, false, cond, eqb, leb, List, [], ◌∷◌, length, Option, Some, None, refl, subst, arith}
 use Rattle.std.specs.List.{All}
 use Rattle.std.proofs.lemmas.Bool.{leb-true, leb-false, eqb-true, eqb-false}
-use Rattle.std.proofs.lemmas.Grind.{common_steps}
 use Rattle.std.proofs.lemmas.List.Elements.{All-nil, All-cons}
 use Rattle.slab_model.specs.State.{Slab}
 use Rattle.slab_model.specs.Grant.{grant}
@@ -16,8 +15,8 @@ use Rattle.conn_zone.specs.declared.calls.ConnReply.{ConnReply}
 use Rattle.conn_zone.specs.declared.calls.ConnReply.TheVariants.{Opened, AtLimit, Closed}
 use Rattle.conn_zone.specs.Table.{has_key, is_at, entry_of, entry_at, with_count, replace_first}
 use Rattle.conn_zone.specs.State.{State}
-use Rattle.conn_zone.specs.Step.{node_size, new_entry, after_grant, open_as, close_to, close_as}
-use Rattle.conn_zone.specs.Object.{parts_of, with_parts, answer_of, zone_after, IsKey, IsCount, greatest_limit, once_at, given_by, back_by, count_at, Ready, CanAnswer, CanOpen, CanClose}
+use Rattle.conn_zone.specs.Step.{node_size, new_entry, after_grant, open_as, close_as}
+use Rattle.conn_zone.specs.Object.{parts_of, with_parts, answer_of, zone_after, IsKey, IsCount, once_at, given_by, back_by, count_at, Ready, CanAnswer, CanOpen, CanClose}
 use Rattle.conn_zone.specs.Holding.{IsWhole, IsEntry}
 use Rattle.conn_zone.specs.Proving.Tables.{found_passes, found_all, replaced_sum, replaced_all, count_weight, counts_more, sum_one, missing_count, same_block}
 use Rattle.conn_zone.specs.Proving.Wholes.{whole_counted, whole_new, whole_none, whole_left}
@@ -86,8 +85,8 @@ abbrev pub left_as : ConnState → ℕ → ConnEntry → ℕ → Bool → ConnRe
 left_as s at e left last = (
   Closed left,
   cond last
-    (record { table = replace_first (is_at at) [] s.table; memory = give_back s.slab at })
-    (record { table = replace_first (is_at at) (with_count left e ∷ []) s.table; memory = s.slab }),
+      (record { table = replace_first (is_at at) [] s.table; memory = give_back s.slab at })
+      (record { table = replace_first (is_at at) (with_count left e ∷ []) s.table; memory = s.slab }),
 )
 
 -- the entry's connections there

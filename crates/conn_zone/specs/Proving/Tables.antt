@@ -1,5 +1,5 @@
 -- Tables in which an entry is found and replaced.
-use Rattle.std.proofs.Common.{ℕ, ◌≡◌, ◌+◌, ◌<◌, ◌≤◌, Bool, true, false, cond, eqb, List, [], ◌∷◌, ◌++◌, length, get_or, Option, Some, None, refl, sym, ap, subst, ◌∙◌, arith, rules}
+use Rattle.std.proofs.Common.{ℕ, ◌≡◌, ◌+◌, ◌<◌, Bool, true, false, cond, eqb, List, [], ◌∷◌, ◌++◌, length, get_or, Some, None, refl, sym, ap, subst, arith, rules}
 use Rattle.std.specs.Prelude.{find}
 use Rattle.std.specs.List.{All, sum_by}
 use Rattle.std.specs.Str.{bytes_eq}
@@ -14,7 +14,7 @@ use Rattle.conn_zone.specs.Object.{count_at, once_at}
 use Rattle.conn_zone.specs.Holding.{entries_of, nodes_at}
 
 pub some_same : {A : Type 0} (x y : A) → Some x ≡ Some y → x ≡ y
-some_same x y h = ap (elim [ | Some z ↦ z | None ↦ x ]) h
+some_same x y h = ap (elim [ Some z ↦ z | None ↦ x ]) h
 
 -- ---- what is found
 

@@ -1,14 +1,12 @@
 -- A zone stays whole.
-use Rattle.std.proofs.Common.{ℕ, ◌≡◌, ◌+◌, ◌<◌, ◌≤◌, Bool, true, false, cond, List, [], ◌∷◌, length, get_or, Option, Some, None, refl, sym, ap, subst, ◌∙◌, inl, inr, arith}
+use Rattle.std.proofs.Common.{ℕ, ◌≡◌, ◌+◌, ◌<◌, ◌≤◌, Bool, true, false, cond, List, [], ◌∷◌, length, get_or, Some, None, refl, sym, ap, ◌∙◌, arith}
 use Rattle.std.specs.Prelude.{find}
 use Rattle.std.specs.List.{All}
-use Rattle.std.proofs.lemmas.Bool.{cases_eq}
 use Rattle.std.proofs.lemmas.List.Elements.{All-nil, All-cons, All-get_or, All-from_get_or}
 use Rattle.slab_model.specs.State.{Slab}
 use Rattle.slab_model.specs.Blocks.{live_bytes, IsLive}
 use Rattle.slab_model.specs.Grant.{grant, block_bytes}
 use Rattle.slab_model.specs.Return.{give_back}
-use Rattle.slab_model.specs.Soundness.{IsSound}
 use Rattle.slab_model.proofs.Laws.{grant-sound, give_back-sound}
 use Rattle.slab_model.proofs.BlockLaws.{grant-grants, grant-none, give_back-returns}
 use Rattle.conn_zone.specs.declared.state.ConnEntry.{ConnEntry}
@@ -17,7 +15,7 @@ use Rattle.conn_zone.specs.Table.{has_key, is_at, entry_of, entry_at, with_count
 use Rattle.conn_zone.specs.Step.{node_size, new_entry}
 use Rattle.conn_zone.specs.Object.{with_parts, once_at, context_size, name_size}
 use Rattle.conn_zone.specs.Holding.{entries_of, nodes_at, named_at, live_at, HasNode, IsWhole}
-use Rattle.conn_zone.specs.Proving.Tables.{found_passes, found_all, replaced_sum, replaced_all, node_weight, key_weight, nodes_more, keys_more, sum_one, missing_none, same_key, same_block, once_here, once_there, each_named}
+use Rattle.conn_zone.specs.Proving.Tables.{found_passes, found_all, replaced_sum, replaced_all, node_weight, key_weight, nodes_more, keys_more, sum_one, missing_none, same_key, same_block, once_here, each_named}
 use Rattle.conn_zone.specs.Proving.Blocks.{grant_shape, back_shape, bytes_same, live_none, live_same, is_live, granted_live, returned_live}
 
 no_entry : ConnEntry
@@ -160,12 +158,12 @@ whole_left s at e whole found =
     let r = give_back-returns s.slab at whole.sound live in
     let own = same_block at e (found_passes (is_at at) s.table e found) in
     let named : (other : ℕ) → named_at (left_by s at) other ≡ live_at slab other = λ other.
-        let h = whole.named other in
-        let sums = replaced_sum (node_weight other) (is_at at) [] s.table e found in
-        let nothing : nodes_at other [] ≡ 0 = refl in
-        let here : once_at other e.block ≡ once_at other at = ap (λ (n : ℕ). once_at other n) own in
-        let gone = returned_live s.slab at whole.sound live other in
-        omega (arith, h, sums, nothing, here, gone) in
+    let h = whole.named other in
+    let sums = replaced_sum (node_weight other) (is_at at) [] s.table e found in
+    let nothing : nodes_at other [] ≡ 0 = refl in
+    let here : once_at other e.block ≡ once_at other at = ap (λ (n : ℕ). once_at other n) own in
+    let gone = returned_live s.slab at whole.sound live other in
+    omega (arith, h, sums, nothing, here, gone) in
     let stay = changed s (replace_first (is_at at) [] s.table) s.slab in
     let keeps : Keeps stay slab = record {
       shape = back_shape s.slab at;
