@@ -1,3 +1,4 @@
 pub mod Weights
+pub mod Named
 pub mod Opens
 pub mod Closes

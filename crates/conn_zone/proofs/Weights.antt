@@ -9,7 +9,7 @@ use Rattle.conn_zone.specs.Object.{once_at}
 use Rattle.conn_zone.specs.Table.{has_key, is_at, entry_of, entry_at, with_count, replace_first}
 use Rattle.conn_zone.specs.Holding.{entries_of, nodes_at}
 use Rattle.conn_zone.specs.Laws.{connections, nodes_of}
-use Rattle.conn_zone.specs.Proving.Tables.{some_same, found_passes, none_weighs, replaced_sum, key_weight, node_weight, nodes_more, once_here}
+use Rattle.conn_zone.specs.Proving.Tables.{some_same, found_passes, none_weighs, replaced_sum, node_weight, nodes_more, once_here}
 
 abbrev pub own_weight : List ℕ → ConnEntry → ℕ
 own_weight key entry = cond (has_key key entry) entry.count 0
@@ -37,23 +37,38 @@ the_last key e one = ap (λ (n : ℕ). cond (has_key key e) n 0) one
 found_weighs : (weight : ConnEntry → ℕ) (test : ConnEntry → Bool) (table : List ConnEntry) (e : ConnEntry) → find test table ≡ Some e → weight e ≤ sum_by weight table
 found_weighs weight test table e found = let sums = replaced_sum weight test [] table e found in let nothing : sum_by weight [] ≡ 0 = refl in omega (arith, sums, nothing)
 
-key_one : (key : List ℕ) (table : List ConnEntry) (e : ConnEntry) → entry_of key table ≡ Some e → key_weight key e ≡ 1
-key_one key table e found = ap {B = ℕ} (λ (b : Bool). cond b 1 0) (found_passes (has_key key) table e found)
+test_one : (test : ConnEntry → Bool) (e : ConnEntry) → test e ≡ true → ◌≡◌ {A = ℕ} (cond (test e) 1 0) 1
+test_one test e passes = ap {B = ℕ} (λ (b : Bool). cond b 1 0) passes
 
--- a key that no entry has is missing
-pub none_found : (key : List ℕ) (table : List ConnEntry) → entries_of key table ≡ 0 → entry_of key table ≡ None
-none_found key table none = go (entry_of key table) refl where
-  go : (found : Option ConnEntry) → entry_of key table ≡ found → entry_of key table ≡ None
+-- how many entries pass the test
+abbrev pub passing : (ConnEntry → Bool) → List ConnEntry → ℕ
+passing test table = sum_by (λ (e : ConnEntry). cond (test e) 1 0) table
+
+-- where none passes, none is found
+pub none_found : (test : ConnEntry → Bool) (table : List ConnEntry) → passing test table ≡ 0 → find test table ≡ None
+none_found test table none = go (find test table) refl where
+  go : (found : Option ConnEntry) → find test table ≡ found → find test table ≡ None
   go None is = is
-  go (Some e) is = absurd (let weighs = found_weighs (key_weight key) (has_key key) table e is in let one = key_one key table e is in omega (arith, weighs, one, none))
+  go (Some e) is = absurd (let weighs = found_weighs (λ (e : ConnEntry). cond (test e) 1 0) test table e is in let one = test_one test e (found_passes test table e is) in omega (arith, weighs, one, none))
 
--- where its entry is taken out it is missing
-pub taken_out : (key : List ℕ) (test : ConnEntry → Bool) (table : List ConnEntry) (e : ConnEntry) → find test table ≡ Some e → has_key key e ≡ true → entries_of key table ≤ 1 → entry_of key (replace_first test [] table) ≡ None
-taken_out key test table e found own few =
-    let sums = replaced_sum (key_weight key) test [] table e found in
-    let nothing : entries_of key [] ≡ 0 = refl in
-    let one : key_weight key e ≡ 1 = ap {B = ℕ} (λ (b : Bool). cond b 1 0) own in
-    none_found key (replace_first test [] table) (omega (arith, sums, nothing, one, few))
+-- where the only one that passes is taken out, by this test or another, none is found
+pub taken_out : (own test : ConnEntry → Bool) (table : List ConnEntry) (e : ConnEntry) → find test table ≡ Some e → own e ≡ true → passing own table ≤ 1 → find own (replace_first test [] table) ≡ None
+taken_out own test table e found passes few =
+    let sums = replaced_sum (λ (e : ConnEntry). cond (own e) 1 0) test [] table e found in
+    let nothing : passing own [] ≡ 0 = refl in
+    let one = test_one own e passes in
+    none_found own (replace_first test [] table) (omega (arith, sums, nothing, one, few))
+
+-- what only those weigh that pass is the weight of the only one
+pub own_sum : (test : ConnEntry → Bool) (weight : ConnEntry → ℕ) (table : List ConnEntry) (e : ConnEntry) → find test table ≡ Some e → passing test table ≤ 1 → sum_by (λ (e : ConnEntry). cond (test e) (weight e) 0) table ≡ weight e
+own_sum test weight table e found few =
+    let passes = found_passes test table e found in
+    let gone = taken_out test test table e found passes few in
+    let rest = none_weighs test weight (replace_first test [] table) gone in
+    let sums = replaced_sum (λ (e : ConnEntry). cond (test e) (weight e) 0) test [] table e found in
+    let nothing : sum_by (λ (e : ConnEntry). cond (test e) (weight e) 0) [] ≡ 0 = refl in
+    let weighs : cond (test e) (weight e) 0 ≡ weight e = ap (λ (b : Bool). cond b (weight e) 0) passes in
+    omega (arith, rest, sums, nothing, weighs)
 
 -- and the other keys have the entries that they had
 pub others_stay : (key : List ℕ) (test : ConnEntry → Bool) (table : List ConnEntry) (e : ConnEntry) → find test table ≡ Some e → has_key key e ≡ false → entry_of key (replace_first test [] table) ≡ entry_of key table
@@ -66,14 +81,7 @@ others_stay key test (x ∷ xs) e found other = go (others_stay key test xs e) (
 
 -- where no other entry has its key, the connections of a key are those of its entry
 pub own_connections : (key : List ℕ) (table : List ConnEntry) (e : ConnEntry) → entry_of key table ≡ Some e → entries_of key table ≤ 1 → connections key table ≡ e.count
-own_connections key table e found few =
-    let own = found_passes (has_key key) table e found in
-    let gone = taken_out key (has_key key) table e found own few in
-    let rest = none_weighs (has_key key) (λ (e : ConnEntry). e.count) (replace_first (has_key key) [] table) gone in
-    let sums = replaced_sum (own_weight key) (has_key key) [] table e found in
-    let nothing : connections key [] ≡ 0 = refl in
-    let weighs : own_weight key e ≡ e.count = ap (λ (b : Bool). cond b e.count 0) own in
-    omega (arith, rest, sums, nothing, weighs)
+own_connections key table e found few = own_sum (has_key key) (λ (e : ConnEntry). e.count) table e found few
 
 pub no_connections : (key : List ℕ) (table : List ConnEntry) → entry_of key table ≡ None → connections key table ≡ 0
 no_connections key table none = none_weighs (has_key key) (λ (e : ConnEntry). e.count) table none

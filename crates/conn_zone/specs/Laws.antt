@@ -1,8 +1,10 @@
 -- What holds of every call of a connection zone.
 use Rattle.std.specs.Prelude.{◌≡◌, ◌≢◌, ℕ, ◌+◌, ◌-◌, ◌<◌, ◌≤◌, ◌⊎◌, ◌↔◌, List, ◌∷◌, length, map, sum_by, Some, None, if◌then◌else◌}
 use Rattle.std.specs.Str.{bytes_eq}
+use Rattle.zone_region.specs.Members.{In, IsDistinct}
+use Rattle.slab_model.specs.Geometry.{IsInLimits, shape_of}
 use Rattle.slab_model.specs.Grant.{grant}
-use Rattle.slab_model.specs.Blocks.{live_bytes}
+use Rattle.slab_model.specs.Blocks.{live_bytes, IsLive}
 use Rattle.slab_model.specs.Return.{give_back}
 use Rattle.conn_zone.specs.declared.state.ConnEntry.{ConnEntry}
 use Rattle.conn_zone.specs.declared.state.ConnState.{ConnState}
@@ -12,7 +14,7 @@ use Rattle.conn_zone.specs.declared.calls.ConnReply.{ConnReply}
 use Rattle.conn_zone.specs.declared.calls.ConnReply.TheVariants.{Opened, AtLimit, NoRoom, Closed}
 use Rattle.conn_zone.specs.Table.{has_key, entry_of, entry_at}
 use Rattle.conn_zone.specs.Step.{node_size}
-use Rattle.conn_zone.specs.Object.{with_parts, answer_of, zone_after, IsOpened, Ready, CanAnswer}
+use Rattle.conn_zone.specs.Object.{with_parts, answer_of, zone_after, with_context, with_name, opened_zone, IsName, IsOpened, count_at, Ready, CanAnswer}
 use Rattle.conn_zone.specs.Holding.{IsWhole}
 
 -- ---- at the limit
@@ -110,6 +112,36 @@ LastCloseLaw = (s : ConnState) (at : ℕ) (entry : ConnEntry) → IsWhole s → 
 -- after another close the keys and blocks are as before, and so is the slab
 abbrev pub OtherCloseLaw : Type 0
 OtherCloseLaw = (s : ConnState) (at : ℕ) (entry : ConnEntry) → entry_at at s.table ≡ Some entry → 1 < entry.count → (nodes_of (zone_after s (Close at)).table ≡ nodes_of s.table) × ((zone_after s (Close at)).slab ≡ s.slab)
+
+-- ---- the blocks of a zone
+
+-- the blocks of a zone: of its context, of its name, and of its entries, newest first
+abbrev pub blocks_of : ConnState → List ℕ
+blocks_of s = s.context ∷ s.name_block ∷ map (λ (entry : ConnEntry). entry.block) s.table
+
+-- the blocks of a whole zone differ, and they are the live blocks of its slab
+abbrev pub WholeLaw : Type 0
+WholeLaw = (s : ConnState) → IsWhole s → IsDistinct (blocks_of s) × ((at : ℕ) → In at (blocks_of s) ↔ IsLive s.slab at)
+
+-- the entry of block `at` has so many connections
+pub record HasCount (table : List ConnEntry) (at count : ℕ) (entry : ConnEntry) : Type 0 where
+  pub found : entry_at at table ≡ Some entry
+  pub block : entry.block ≡ at
+  pub counted : entry.count ≡ count
+
+-- in a whole zone the connections at a block are those of its entry
+abbrev pub CountedEntryLaw : Type 0
+CountedEntryLaw = (s : ConnState) (at : ℕ) → IsWhole s → 0 < count_at at s.table → (entry : ConnEntry) × HasCount s.table at (count_at at s.table) entry
+
+-- what opening a zone makes: the slab gives both blocks, and a history may begin there
+pub record Opens (name : List ℕ) (bytes : ℕ) : Type 0 where
+  pub context : (with_context bytes).0 ≡ Some (opened_zone name bytes).context
+  pub name_block : (with_name bytes name).0 ≡ Some (opened_zone name bytes).name_block
+  pub whole : IsWhole (opened_zone name bytes)
+  pub quiet : IsOpened (opened_zone name bytes)
+
+abbrev pub OpenLaw : Type 0
+OpenLaw = (name : List ℕ) (bytes : ℕ) → IsName name → IsInLimits (shape_of bytes) → Opens name bytes
 
 -- ---- the laws of an object
 

@@ -1,10 +1,12 @@
 -- Worked rows, which the definitions compute.
-use Rattle.std.specs.Prelude.{ℕ, zero, suc, ◌≡◌, ◌/◌, ◌%◌, List, [], ◌∷◌, length}
+use Rattle.std.specs.Prelude.{ℕ, zero, suc, ◌≡◌, ◌/◌, ◌%◌, List, [], ◌∷◌, length, Some}
 use Rattle.conn_zone.specs.declared.state.ConnState.{ConnState}
 use Rattle.conn_zone.specs.declared.calls.ConnCall.{ConnCall}
 use Rattle.conn_zone.specs.declared.calls.ConnCall.TheVariants.{Open, Close}
 use Rattle.conn_zone.specs.declared.calls.ConnReply.{ConnReply}
 use Rattle.conn_zone.specs.declared.calls.ConnReply.TheVariants.{Opened, AtLimit, NoRoom, Closed}
+use Rattle.slab_model.specs.Counting.{free_pages}
+use Rattle.conn_zone.specs.Table.{entry_at}
 use Rattle.conn_zone.specs.Object.{opened_zone, answer_of, zone_after}
 
 -- the replies of these calls, one after another
@@ -20,15 +22,19 @@ small_zone = opened_zone (99 ∷ []) 32768
 abbrev pub address : ℕ → List ℕ
 address n = 10 ∷ 0 ∷ n / 256 ∷ n % 256 ∷ []
 
--- one connection at once: it is counted, the next is refused, and once it ended the next is counted in the same block
-abbrev pub OneAtOnceRow : Type 0
-OneAtOnceRow = replies_of small_zone (Open (address 1) 1 ∷ Open (address 1) 1 ∷ Close 4160 ∷ Open (address 1) 1 ∷ []) ≡ Opened 4160 1 ∷ AtLimit 1 ∷ Closed 0 ∷ Opened 4160 1 ∷ []
-
 -- the zone after one connection of each of so many addresses
 abbrev pub filled : ℕ → ConnState
 filled zero = small_zone
 filled (suc n) = zone_after (filled n) (Open (address n) 1)
 
--- it has 383 entries, and the next address finds no room
+-- the context stands at 4096, the name's block at 8224 and a first node at 4160; 5 pages are then free
+abbrev pub OpenRow : Type 0
+OpenRow = (small_zone.context ≡ 4096) × (small_zone.name_block ≡ 8224) × (entry_at 4160 (filled 1).table ≡ Some (record { key = address 0; block = 4160; count = 1 })) × (free_pages (filled 1).slab ≡ 5)
+
+-- one connection at once: it is counted, the next is refused, and once it ended the next is counted in the same block
+abbrev pub OneAtOnceRow : Type 0
+OneAtOnceRow = replies_of small_zone (Open (address 1) 1 ∷ Open (address 1) 1 ∷ Close 4160 ∷ Open (address 1) 1 ∷ []) ≡ Opened 4160 1 ∷ AtLimit 1 ∷ Closed 0 ∷ Opened 4160 1 ∷ []
+
+-- it holds 383 entries, and the next address finds no room
 abbrev pub FullRow : Type 0
 FullRow = (length (filled 383).table ≡ 383) × (answer_of (filled 383) (Open (address 383) 1) ≡ NoRoom)

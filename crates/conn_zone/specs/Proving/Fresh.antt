@@ -19,6 +19,7 @@ use Rattle.slab_model.proofs.CountLaws.{grant_pages-law}
 use Rattle.conn_zone.specs.declared.state.ConnState.{ConnState}
 use Rattle.conn_zone.specs.Object.{once_at, context_size, name_size, with_context, with_name, opened_zone, IsName, IsOpened, IsOpenedAs}
 use Rattle.conn_zone.specs.Holding.{nodes_at, HasNode, IsWhole}
+use Rattle.conn_zone.specs.Laws.{OpenLaw}
 use Rattle.conn_zone.specs.Proving.Blocks.{grant_shape, bytes_same, live_none, granted_live}
 
 -- ---- a request of less than a page in a slab with a free page
@@ -117,6 +118,16 @@ opened_whole s (bytes, o) =
 
 pub opened_empty : (s : ConnState) → IsOpened s → s.table ≡ []
 opened_empty s (bytes, o) = ap (λ (z : ConnState). z.table) o.fresh
+
+pub open-law : OpenLaw
+open-law name bytes short limits =
+    let blocks = opens name bytes short limits in
+    record {
+      context = blocks.2.context_block ∙ ap (λ (b : Option ℕ). Some (unwrap_or b 0)) (sym blocks.2.context_block);
+      name_block = blocks.2.name_block ∙ ap (λ (b : Option ℕ). Some (unwrap_or b 0)) (sym blocks.2.name_block);
+      whole = opened_parts name bytes blocks.0 blocks.1 limits blocks.2;
+      quiet = (bytes, record { name = short; limits = limits; fresh = refl });
+    }
 
 -- ---- where it begins
 

@@ -1,4 +1,6 @@
 use Rattle.conn_zone.specs.ObjectLaws.{answer-law, start-law}
+use Rattle.conn_zone.specs.Proving.Fresh.{open-law}
+use Rattle.conn_zone.proofs.Named.{whole-law, counted_entry-law}
 use Rattle.conn_zone.proofs.Opens.{open_counts-law, opened-law, evicts_nothing-law}
 use Rattle.conn_zone.proofs.Closes.{close_counts-law, last_close-law, other_close-law}
 use Rattle.conn_zone.proofs.theorems.laws.Goals as goal
@@ -20,6 +22,15 @@ returns-clause-last_close c = last_close-law
 
 pub returns-clause-other_close : goal.returns-clause-other_close
 returns-clause-other_close c = other_close-law
+
+pub returns-clause-whole : goal.returns-clause-whole
+returns-clause-whole c = whole-law
+
+pub returns-clause-counted_entry : goal.returns-clause-counted_entry
+returns-clause-counted_entry c = counted_entry-law
+
+pub returns-clause-opens : goal.returns-clause-opens
+returns-clause-opens c = open-law
 
 pub returns-clause-answers : goal.returns-clause-answers
 returns-clause-answers c = answer-law

@@ -1,5 +1,5 @@
 use Rattle.conn_zone.specs.ObjectLaws.{ready-law, holds-law}
-use Rattle.conn_zone.proofs.theorems.histories.Goals as goal
+use Rattle.conn_zone.proofs.theorems.history_laws.Goals as goal
 
 pub returns-clause-ready : goal.returns-clause-ready
 returns-clause-ready g c = ready-law
