@@ -2,16 +2,14 @@
 use Rattle.std.proofs.Common.{◌≡◌, ℕ, ◌+◌, ◌<◌, ◌≤◌, Bool, true, false, not, ◌&&◌, ◌||◌, List, [], ◌∷◌, ◌++◌, Option, None, Some, refl, subst, arith}
 use Rattle.std.specs.Prelude.{◌==◌, if◌then◌else◌, nat_lt}
 use Rattle.std.proofs.lemmas.Bool.{ltb-true}
-use Rattle.directive_text.specs.declared.token.Token.{Token}
-use Rattle.directive_text.specs.declared.token.Lexeme.{Lexeme}
-use Rattle.directive_text.specs.declared.token.Lexeme.TheVariants.{Word, Semicolon, Opening, Closing, Misplaced, End}
 use Rattle.directive_text.specs.declared.tree.Directive.{Directive}
 use Rattle.directive_text.specs.Bytes.{is_blank, is_quote, may_follow, below}
-use Rattle.directive_text.specs.Lexemes.{Rest, followed, between, comment, plain, plain_pair, quoted, quoted_pair, tokens_of}
-use Rattle.directive_text.specs.Faults.{Fault, kind_at, blocks_after, is_word, first_fault}
-use Rattle.directive_text.specs.Marks.{Mark, lexeme_marks, token_marks}
+use Rattle.directive_text.specs.Internals.Lexemes.{Token, Lexeme, word, semicolon, opening, closing, misplaced, end, Rest, followed, between, comment, plain, plain_pair, quoted, quoted_pair, tokens_of}
+use Rattle.directive_text.specs.Internals.Tokens.{Fault, kind_at, blocks_after, is_word, first_fault}
+use Rattle.directive_text.specs.Marks.{Mark}
+use Rattle.directive_text.specs.Internals.Tokens.{lexeme_marks, token_marks}
 use Rattle.directive_text.specs.Printing.{MarksFit, Fits}
-use Rattle.directive_text.specs.Reading.{Spells}
+use Rattle.directive_text.specs.Internals.Tokens.{Says}
 
 -- the lines of tokens don't fall, from a line on
 abbrev Rises : ℕ → List Token → Type 0
@@ -84,14 +82,14 @@ mutual
   quoted_pair-rises quote line (b ∷ bs) = earlier line (below line b) _ (below-rises line b) (quoted-rises quote (below line b) bs)
 
 -- where nothing is wrong from a token on, nothing is wrong with it, nor behind it
-no-fault : (blocks : ℕ) (pending : Bool) (t : Token) (ts : List Token) → first_fault blocks pending (t ∷ ts) ≡ None →
+pub no-fault : (blocks : ℕ) (pending : Bool) (t : Token) (ts : List Token) → first_fault blocks pending (t ∷ ts) ≡ None →
     (kind_at blocks pending t.lexeme ≡ None) × (first_fault (blocks_after blocks t.lexeme) (is_word t.lexeme) ts ≡ None)
 no-fault blocks pending t ts e =
     let next : Option Fault = first_fault (blocks_after blocks t.lexeme) (is_word t.lexeme) ts in
     let P : Option ℕ → Type 0 = λ k. (elim k as (λ _. Option Fault) [ Some kind ↦ Some (record { line = t.line; kind = kind }) | None ↦ next ] ≡ None) → (k ≡ None) × (next ≡ None) in
     (elim (kind_at blocks pending t.lexeme) as P [ Some kind ↦ λ h. absurd (cc) | None ↦ λ h. (refl, h) ]) e
 
-semicolon-kind : (blocks : ℕ) (pending : Bool) → kind_at blocks pending Semicolon ≡ None → pending ≡ true
+semicolon-kind : (blocks : ℕ) (pending : Bool) → kind_at blocks pending semicolon ≡ None → pending ≡ true
 semicolon-kind blocks true e = refl
 semicolon-kind blocks false e = absurd (cc)
 
@@ -99,22 +97,22 @@ few_blocks : (b : Bool) → let none : Option ℕ = None in (if b then none else
 few_blocks true e = refl
 few_blocks false e = absurd (cc)
 
-opening-kind : (blocks : ℕ) (pending : Bool) → kind_at blocks pending Opening ≡ None → (pending ≡ true) × (blocks < 16)
+pub opening-kind : (blocks : ℕ) (pending : Bool) → kind_at blocks pending opening ≡ None → (pending ≡ true) × (blocks < 16)
 opening-kind blocks true e = (refl, ltb-true blocks 16 (few_blocks (nat_lt blocks 16) e))
 opening-kind blocks false e = absurd (cc)
 
 -- the marks of a token that is no fault fit, if those behind it do
 token-fits : (x : Lexeme) (n line blocks : ℕ) (pending : Bool) (ms : List Mark) → line ≤ n → kind_at blocks pending x ≡ None →
     ((low : ℕ) → low ≤ n → MarksFit low (blocks_after blocks x) (is_word x) ms) → MarksFit line blocks pending (lexeme_marks pending n x ++ ms)
-token-fits (Word w) n line blocks true ms h k rest = rest line h
-token-fits (Word w) n line blocks false ms h k rest = (h, rest n (omega arith))
-token-fits Semicolon n line blocks pending ms h k rest = (semicolon-kind blocks pending k, rest line h)
-token-fits Opening n line blocks pending ms h k rest =
+token-fits (word w) n line blocks true ms h k rest = rest line h
+token-fits (word w) n line blocks false ms h k rest = (h, rest n (omega arith))
+token-fits semicolon n line blocks pending ms h k rest = (semicolon-kind blocks pending k, rest line h)
+token-fits opening n line blocks pending ms h k rest =
     let o = opening-kind blocks pending k in (o.0, o.1, rest line h)
-token-fits Closing n line blocks pending ms h k rest = rest line h
-token-fits Misplaced n line blocks pending ms h k rest = absurd (cc)
-token-fits End n line blocks true ms h k rest = absurd (cc)
-token-fits End n line blocks false ms h k rest = rest line h
+token-fits closing n line blocks pending ms h k rest = rest line h
+token-fits misplaced n line blocks pending ms h k rest = absurd (cc)
+token-fits end n line blocks true ms h k rest = absurd (cc)
+token-fits end n line blocks false ms h k rest = rest line h
 
 marks-fit : (ts : List Token) (blocks : ℕ) (pending : Bool) (line : ℕ) → Rises line ts → first_fault blocks pending ts ≡ None → MarksFit line blocks pending (token_marks pending ts)
 marks-fit [] blocks pending line r e = tt
@@ -124,5 +122,5 @@ marks-fit (t ∷ ts) blocks pending line r e =
     (λ low h. marks-fit ts (blocks_after blocks t.lexeme) (is_word t.lexeme) low (earlier low t.line ts h r.1) n.1)
 
 -- what a text spells has a canonical text
-pub spelled-fits : (text : List ℕ) (ds : List Directive) → Spells text ds → Fits ds
+pub spelled-fits : (text : List ℕ) (ds : List Directive) → Says text ds → Fits ds
 spelled-fits text ds s = subst (λ ms. MarksFit 1 0 false ms) s.marks (marks-fit (tokens_of text) 0 false 1 (between-rises 1 text) s.sound)

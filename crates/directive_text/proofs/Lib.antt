@@ -1,5 +1,13 @@
+pub mod Continued
+pub mod Faulty
 pub mod Fitting
+pub mod LastLine
+pub mod Meaning
+pub mod Parsed
 pub mod Places
 pub mod Printed
+pub mod Spelled
+pub mod Split
+pub mod Staying
 pub mod Trees
 pub mod Unique

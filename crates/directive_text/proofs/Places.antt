@@ -3,11 +3,9 @@ use Rattle.std.proofs.Common.{◌≡◌, ◌≢◌, ℕ, ◌+◌, ◌<◌, ◌�
 use Rattle.std.specs.Prelude.{◌==◌, ◌⊎◌, if◌then◌else◌}
 use Rattle.std.proofs.lemmas.List.{get_or-drop}
 use Rattle.std.proofs.lemmas.Bool.{ne_eqb, eqb-true}
-use Rattle.directive_text.specs.declared.token.Token.{Token}
-use Rattle.directive_text.specs.declared.token.Lexeme.TheVariants.{Word, Semicolon, Opening, Closing}
 use Rattle.directive_text.specs.Bytes.{is_blank, is_quote, below, ends_plain}
-use Rattle.directive_text.specs.Steps.{Passes}
-use Rattle.directive_text.specs.Lexemes.{Rest, kept, ends, word, followed, between, comment, plain, plain_pair, quoted, quoted_pair}
+use Rattle.directive_text.specs.Internals.Steps.{Passes}
+use Rattle.directive_text.specs.Internals.Lexemes.{Token, word, semicolon, opening, closing, Rest, kept, ends, word_at, followed, between, comment, plain, plain_pair, quoted, quoted_pair}
 
 -- bytes in front of bytes in front
 pub kept_kept : (a b : List ℕ) (r : Rest) → kept a (kept b r) ≡ kept (a ++ b) r
@@ -38,7 +36,7 @@ or_false_right true = refl
 or_false_right false = refl
 
 -- a choice of two rests of a word
-pub pick : (line : ℕ) (t : Bool) (x y : Rest) → (if t then word line x else word line y) ≡ word line (if t then x else y)
+pub pick : (line : ℕ) (t : Bool) (x y : Rest) → (if t then word_at line x else word_at line y) ≡ word_at line (if t then x else y)
 pick line true x y = refl
 pick line false x y = refl
 
@@ -95,14 +93,14 @@ unfolding is_blank
 plain-backslash dollar line bs = refl
 
 -- where nothing else is begun, a plain word is
-pub between-plain : (line b : ℕ) (bs : List ℕ) → ends_plain false b ≡ false → (b == 35) ≡ false → (b == 125) ≡ false → is_quote b ≡ false → between line (b ∷ bs) ≡ word line (plain false line (b ∷ bs))
+pub between-plain : (line b : ℕ) (bs : List ℕ) → ends_plain false b ≡ false → (b == 35) ≡ false → (b == 125) ≡ false → is_quote b ≡ false → between line (b ∷ bs) ≡ word_at line (plain false line (b ∷ bs))
 unfolding ends_plain
 between-plain line b bs e f g h =
     let i = or_false (is_blank b || b == 59) (b == 123 && true) e in
     let j = or_false (is_blank b) (b == 59) i.0 in
     let k = and_true_false (b == 123) i.1 in
     rw (j.0, f, j.1, k, g, h) (pick line (b == 92) (plain_pair line bs) (kept (b ∷ []) (plain (b == 36) line bs))
-    ∙ ap (λ d. word line (if b == 92 then plain_pair line bs else kept (b ∷ []) (plain d line bs))) (sym (or_false_right (b == 36))))
+    ∙ ap (λ d. word_at line (if b == 92 then plain_pair line bs else kept (b ∷ []) (plain d line bs))) (sym (or_false_right (b == 36))))
 
 -- the LF of a comment ends it
 pub comment_to : (line n : ℕ) (bs : List ℕ) → ((k : ℕ) → k < n → get_or bs k 0 ≡ 10 → ⊥) → comment line bs ≡ comment line (drop n bs)
@@ -179,33 +177,33 @@ pub kept-ends : (value : List ℕ) (tokens : List Token) → kept value (ends to
 kept-ends value tokens = ap (λ v. record { value = v; tokens = tokens }) (append-nil value)
 
 -- a plain word, once it is read
-pub word-plain : (line b : ℕ) (left rest value : List ℕ) (tokens : List Token) → left ≡ b ∷ rest → ends_plain false b ≡ false → (b ≢ 35) × (b ≢ 125) × (is_quote b ≡ false) → plain false line left ≡ kept value (ends tokens) → between line left ≡ record { line = line; lexeme = Word value } ∷ tokens
+pub word-plain : (line b : ℕ) (left rest value : List ℕ) (tokens : List Token) → left ≡ b ∷ rest → ends_plain false b ≡ false → (b ≢ 35) × (b ≢ 125) × (is_quote b ≡ false) → plain false line left ≡ kept value (ends tokens) → between line left ≡ record { line = line; lexeme = word value } ∷ tokens
 word-plain line b left rest value tokens is inside begins read =
     rw is (between-plain line b rest inside (ne_eqb b 35 begins.0) (ne_eqb b 125 begins.1) begins.2)
-    ∙ ap (word line) (ap (plain false line) (sym is) ∙ read ∙ kept-ends value tokens)
+    ∙ ap (word_at line) (ap (plain false line) (sym is) ∙ read ∙ kept-ends value tokens)
 
 -- a quoted word, once it is read
-pub between-quote : {line b line_after : ℕ} {left left_after : List ℕ} → Passes line left b line_after left_after → is_quote b ≡ true → between line left ≡ word line (quoted b line_after left_after)
+pub between-quote : {line b line_after : ℕ} {left left_after : List ℕ} → Passes line left b line_after left_after → is_quote b ≡ true → between line left ≡ word_at line (quoted b line_after left_after)
 unfolding is_quote is_blank below
 between-quote {line} {b} {line_after} {left} {left_after} p e =
     rw (p.bytes, p.lines) (elim (or_true (b == 34) (b == 39) e) [
-      | inl h ↦ subst (λ n. between line (n ∷ left_after) ≡ word line (quoted n (below line n) left_after)) (sym (eqb-true b 34 h)) refl
-      | inr h ↦ subst (λ n. between line (n ∷ left_after) ≡ word line (quoted n (below line n) left_after)) (sym (eqb-true b 39 h)) refl
+      | inl h ↦ subst (λ n. between line (n ∷ left_after) ≡ word_at line (quoted n (below line n) left_after)) (sym (eqb-true b 34 h)) refl
+      | inr h ↦ subst (λ n. between line (n ∷ left_after) ≡ word_at line (quoted n (below line n) left_after)) (sym (eqb-true b 39 h)) refl
     ])
 
-pub word-quoted : {line b line_after : ℕ} {left left_after : List ℕ} → (value : List ℕ) (tokens : List Token) → Passes line left b line_after left_after → is_quote b ≡ true → quoted b line_after left_after ≡ kept value (ends tokens) → between line left ≡ record { line = line; lexeme = Word value } ∷ tokens
-word-quoted {line} value tokens p e read = between-quote p e ∙ ap (word line) (read ∙ kept-ends value tokens)
+pub word-quoted : {line b line_after : ℕ} {left left_after : List ℕ} → (value : List ℕ) (tokens : List Token) → Passes line left b line_after left_after → is_quote b ≡ true → quoted b line_after left_after ≡ kept value (ends tokens) → between line left ≡ record { line = line; lexeme = word value } ∷ tokens
+word-quoted {line} value tokens p e read = between-quote p e ∙ ap (word_at line) (read ∙ kept-ends value tokens)
 
 -- the lexemes of one byte
-pub mark-semicolon : {line b line_after : ℕ} {left left_after : List ℕ} → Passes line left b line_after left_after → b ≡ 59 → between line left ≡ record { line = line; lexeme = Semicolon } ∷ between line_after left_after
+pub mark-semicolon : {line b line_after : ℕ} {left left_after : List ℕ} → Passes line left b line_after left_after → b ≡ 59 → between line left ≡ record { line = line; lexeme = semicolon } ∷ between line_after left_after
 unfolding is_blank below
 mark-semicolon p e = rw (p.bytes, p.lines, e) refl
 
-pub mark-opening : {line b line_after : ℕ} {left left_after : List ℕ} → Passes line left b line_after left_after → b ≡ 123 → between line left ≡ record { line = line; lexeme = Opening } ∷ between line_after left_after
+pub mark-opening : {line b line_after : ℕ} {left left_after : List ℕ} → Passes line left b line_after left_after → b ≡ 123 → between line left ≡ record { line = line; lexeme = opening } ∷ between line_after left_after
 unfolding is_blank below
 mark-opening p e = rw (p.bytes, p.lines, e) refl
 
-pub mark-closing : {line b line_after : ℕ} {left left_after : List ℕ} → Passes line left b line_after left_after → b ≡ 125 → between line left ≡ record { line = line; lexeme = Closing } ∷ between line_after left_after
+pub mark-closing : {line b line_after : ℕ} {left left_after : List ℕ} → Passes line left b line_after left_after → b ≡ 125 → between line left ≡ record { line = line; lexeme = closing } ∷ between line_after left_after
 unfolding is_blank below
 mark-closing p e = rw (p.bytes, p.lines, e) refl
 

@@ -3,17 +3,16 @@ use Rattle.std.proofs.Common.{◌≡◌, ◌≢◌, ℕ, zero, suc, ◌+◌, ◌
 use Rattle.std.specs.Prelude.{◌==◌}
 use Rattle.std.specs.List.{list_all, flat_map}
 use Rattle.std.proofs.lemmas.Bool.{ne_eqb, eqb-true, lt-ltb}
-use Rattle.directive_text.specs.declared.token.Token.{Token}
-use Rattle.directive_text.specs.declared.token.Lexeme.TheVariants.{Word, Semicolon, Opening, Closing}
 use Rattle.directive_text.specs.declared.tree.Directive.{Directive}
 use Rattle.directive_text.specs.declared.tree.Directive.TheViews.{roll-Directive}
 use Rattle.directive_text.specs.declared.tree.Directive.TheFolds.{ind-Directive, map-Directive}
 use Rattle.directive_text.specs.Bytes.{is_blank, is_quote, may_follow, below, unescaped, ends_plain}
-use Rattle.directive_text.specs.Lexemes.{kept, ends, word, followed, between, plain, quoted}
-use Rattle.directive_text.specs.Faults.{Fault, kind_at, blocks_after, is_word, first_fault}
-use Rattle.directive_text.specs.Marks.{Mark, begins, has, ended, opened, closed, directive_marks, marks_of, token_marks}
+use Rattle.directive_text.specs.Internals.Lexemes.{Token, word, semicolon, opening, closing, kept, ends, word_at, followed, between, plain, quoted}
+use Rattle.directive_text.specs.Internals.Tokens.{Fault, kind_at, blocks_after, is_word, first_fault}
+use Rattle.directive_text.specs.Marks.{Mark, begins, has, ended, opened, closed, directive_marks, marks_of}
+use Rattle.directive_text.specs.Internals.Tokens.{token_marks}
 use Rattle.directive_text.specs.Printing.{is_plain, is_plain_word, in_quotes, word_text, marks_text, printed, MarksFit, Fits}
-use Rattle.directive_text.specs.Reading.{Spells}
+use Rattle.directive_text.specs.Internals.Tokens.{Says}
 use Rattle.directive_text.proofs.Places.{or_false, and_true, not_true, tells, plain-byte, between-plain}
 use Rattle.directive_text.proofs.Trees.{marks-ended, marks-block}
 
@@ -87,29 +86,29 @@ followed-space : (line : ℕ) (y : List ℕ) → followed line (32 ∷ y) (betwe
 unfolding may_follow is_blank below
 followed-space line y = refl
 
-between-double : (line : ℕ) (z : List ℕ) → between line (34 ∷ z) ≡ word line (quoted 34 line z)
+between-double : (line : ℕ) (z : List ℕ) → between line (34 ∷ z) ≡ word_at line (quoted 34 line z)
 unfolding is_blank is_quote
 between-double line z = refl
 
 -- a printed word is read
-word-plain_text : (w : List ℕ) (line : ℕ) (y : List ℕ) → is_plain_word w ≡ true → between line (w ++ 32 ∷ y) ≡ record { line = line; lexeme = Word w } ∷ between line y
+word-plain_text : (w : List ℕ) (line : ℕ) (y : List ℕ) → is_plain_word w ≡ true → between line (w ++ 32 ∷ y) ≡ record { line = line; lexeme = word w } ∷ between line y
 word-plain_text [] line y e = absurd (cc)
 word-plain_text (b ∷ bs) line y e =
     let h = and_true (is_plain b) (list_all is_plain bs) e in
     let p = plain_byte b h.0 in
     between-plain line b (bs ++ 32 ∷ y) p.ends p.hash p.closing p.quote
-    ∙ ap (word line) (plain-run (b ∷ bs) line y e)
-    ∙ ap (λ v. record { line = line; lexeme = Word v } ∷ between line y) (append-nil (b ∷ bs))
+    ∙ ap (word_at line) (plain-run (b ∷ bs) line y e)
+    ∙ ap (λ v. record { line = line; lexeme = word v } ∷ between line y) (append-nil (b ∷ bs))
 
-word-quoted_text : (w : List ℕ) (line : ℕ) (y : List ℕ) → between line ((34 ∷ flat_map in_quotes w ++ 34 ∷ []) ++ 32 ∷ y) ≡ record { line = line; lexeme = Word w } ∷ between line y
+word-quoted_text : (w : List ℕ) (line : ℕ) (y : List ℕ) → between line ((34 ∷ flat_map in_quotes w ++ 34 ∷ []) ++ 32 ∷ y) ≡ record { line = line; lexeme = word w } ∷ between line y
 word-quoted_text w line y =
     ap (λ z. between line (34 ∷ z)) (append_assoc (flat_map in_quotes w) (34 ∷ []) (32 ∷ y))
     ∙ between-double line (flat_map in_quotes w ++ 34 ∷ 32 ∷ y)
-    ∙ ap (word line) (quoted-run w line (32 ∷ y))
-    ∙ ap (λ v. record { line = line; lexeme = Word v } ∷ followed line (32 ∷ y) (between line (32 ∷ y))) (append-nil w)
-    ∙ ap (λ ts. record { line = line; lexeme = Word w } ∷ ts) (followed-space line y)
+    ∙ ap (word_at line) (quoted-run w line (32 ∷ y))
+    ∙ ap (λ v. record { line = line; lexeme = word v } ∷ followed line (32 ∷ y) (between line (32 ∷ y))) (append-nil w)
+    ∙ ap (λ ts. record { line = line; lexeme = word w } ∷ ts) (followed-space line y)
 
-word-read : (w : List ℕ) (line : ℕ) (y : List ℕ) → between line (word_text w ++ 32 ∷ y) ≡ record { line = line; lexeme = Word w } ∷ between line y
+word-read : (w : List ℕ) (line : ℕ) (y : List ℕ) → between line (word_text w ++ 32 ∷ y) ≡ record { line = line; lexeme = word w } ∷ between line y
 word-read w line y =
     elim (tells (is_plain_word w)) [
       | inl h ↦ rw h (word-plain_text w line y h)
@@ -183,15 +182,15 @@ read-all (d ∷ ds) blocks line ms f =
     }
 
 -- the bytes that end a directive or a block
-semicolon-read : (line : ℕ) (y : List ℕ) → between line (59 ∷ y) ≡ record { line = line; lexeme = Semicolon } ∷ between line y
+pub semicolon-read : (line : ℕ) (y : List ℕ) → between line (59 ∷ y) ≡ record { line = line; lexeme = semicolon } ∷ between line y
 unfolding is_blank
 semicolon-read line y = refl
 
-opening-read : (line : ℕ) (y : List ℕ) → between line (123 ∷ y) ≡ record { line = line; lexeme = Opening } ∷ between line y
+pub opening-read : (line : ℕ) (y : List ℕ) → between line (123 ∷ y) ≡ record { line = line; lexeme = opening } ∷ between line y
 unfolding is_blank
 opening-read line y = refl
 
-closing-read : (line : ℕ) (y : List ℕ) → between line (125 ∷ y) ≡ record { line = line; lexeme = Closing } ∷ between line y
+pub closing-read : (line : ℕ) (y : List ℕ) → between line (125 ∷ y) ≡ record { line = line; lexeme = closing } ∷ between line y
 unfolding is_blank
 closing-read line y = refl
 
@@ -201,8 +200,8 @@ passed-fault blocks pending t ts e =
     let next : Option Fault = first_fault (blocks_after blocks t.lexeme) (is_word t.lexeme) ts in
     subst (λ (k : Option ℕ). elim k as (λ _. Option Fault) [ Some kind ↦ Some (record { line = t.line; kind = kind }) | None ↦ next ] ≡ next) (sym e) refl
 
-opening-fault : (blocks line : ℕ) (ts : List Token) → blocks < 16 → first_fault blocks true (record { line = line; lexeme = Opening } ∷ ts) ≡ first_fault (blocks + 1) false ts
-opening-fault blocks line ts h = passed-fault blocks true (record { line = line; lexeme = Opening }) ts (rw (lt-ltb blocks 16 h) refl)
+pub opening-fault : (blocks line : ℕ) (ts : List Token) → blocks < 16 → first_fault blocks true (record { line = line; lexeme = opening } ∷ ts) ≡ first_fault (blocks + 1) false ts
+opening-fault blocks line ts h = passed-fault blocks true (record { line = line; lexeme = opening }) ts (rw (lt-ltb blocks 16 h) refl)
 
 one_less : (blocks : ℕ) → blocks + 1 - 1 ≡ blocks
 one_less blocks = omega arith
@@ -210,9 +209,9 @@ one_less blocks = omega arith
 some_block : (blocks : ℕ) → blocks + 1 ≢ 0
 some_block blocks e = omega arith
 
-closing-fault : (blocks line : ℕ) (ts : List Token) → first_fault (blocks + 1) false (record { line = line; lexeme = Closing } ∷ ts) ≡ first_fault blocks false ts
+pub closing-fault : (blocks line : ℕ) (ts : List Token) → first_fault (blocks + 1) false (record { line = line; lexeme = closing } ∷ ts) ≡ first_fault blocks false ts
 closing-fault blocks line ts =
-    passed-fault (blocks + 1) false (record { line = line; lexeme = Closing }) ts (rw (ne_eqb (blocks + 1) 0 (some_block blocks)) refl)
+    passed-fault (blocks + 1) false (record { line = line; lexeme = closing }) ts (rw (ne_eqb (blocks + 1) 0 (some_block blocks)) refl)
     ∙ ap (λ b. first_fault b false ts) (one_less blocks)
 
 -- a directive that `;` ends
@@ -285,7 +284,7 @@ with_reading [] = ([], refl)
 with_reading (d ∷ ds) = let p = with_reading ds in ((d, is_read d) ∷ p.0, ap (λ r. d ∷ r) p.1)
 
 -- the canonical text of a tree spells it
-pub printed-spells : (ds : List Directive) → Fits ds → Spells (printed ds) ds
+pub printed-spells : (ds : List Directive) → Fits ds → Says (printed ds) ds
 printed-spells ds f =
     let p = with_reading ds in
     let a : marks_of (map (λ e. e.0) p.0) ++ [] ≡ marks_of ds = append-nil _ ∙ ap marks_of p.1 in

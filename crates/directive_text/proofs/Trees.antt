@@ -1,11 +1,11 @@
 -- The marks of trees as they grow.
-use Rattle.std.proofs.Common.{◌≡◌, ℕ, ◌+◌, ◌-◌, true, false, List, [], ◌∷◌, ◌++◌, None, Some, map, length, sym, ◌∙◌, ap, append_assoc, append-nil, length-append, arith}
+use Rattle.std.proofs.Common.{◌≡◌, ℕ, ◌+◌, ◌-◌, true, false, List, [], ◌∷◌, ◌++◌, None, Some, map, length, refl, sym, ◌∙◌, ap, append_assoc, append-nil, length-append, arith}
 use Rattle.directive_text.specs.declared.tree.Directive.{Directive}
 use Rattle.directive_text.specs.declared.tree.Directive.TheViews.{roll-Directive}
 use Rattle.directive_text.specs.declared.tree.Directive.TheFolds.{fold-roll-Directive}
 use Rattle.directive_text.specs.declared.builder.Frame.{Frame}
 use Rattle.directive_text.specs.Marks.{Mark, begins, has, ended, opened, closed, joined, marks_step, directive_marks, marks_of}
-use Rattle.directive_text.specs.Progress.{some_word, pending_marks, frame_marks, progress_of}
+use Rattle.directive_text.specs.Internals.Progress.{some_word, pending_marks, frame_marks, progress_of}
 
 -- one more list at the end
 pub joined_push : {X : Type 0} → (g : X → List Mark) (xs : List X) (x : X) → joined (map g (xs ++ x ∷ [])) ≡ joined (map g xs) ++ g x
@@ -37,15 +37,18 @@ progress-end frames done line (w ∷ ws) e =
 regroup-open : (F M P O : List Mark) → ((F ++ (M ++ (P ++ O))) ++ []) ++ [] ≡ ((F ++ M) ++ P) ++ O
 regroup-open F M P O = simp (append_assoc, append-nil)
 
-pub progress-open : (frames : List Frame) (done : List Directive) (line : ℕ) (words : List (List ℕ)) → some_word words ≡ true →
-    progress_of (frames ++ record { before = done; words = words; line = line } ∷ []) [] line []
-    ≡ record { marks = (progress_of frames done line words).marks ++ opened ∷ []; blocks = length frames + 1; pending = false }
-progress-open frames done line [] e = absurd (cc)
-progress-open frames done line (w ∷ ws) e =
-    let f : Frame = record { before = done; words = w ∷ ws; line = line } in
+pending-some : (line : ℕ) (words : List (List ℕ)) → some_word words ≡ true → pending_marks line words ≡ begins line ∷ map has words
+pending-some line [] e = absurd (cc)
+pending-some line (w ∷ ws) e = refl
+
+pub progress-open : (frames : List Frame) (f : Frame) (line : ℕ) → some_word f.words ≡ true →
+    progress_of (frames ++ f ∷ []) [] line []
+    ≡ record { marks = (progress_of frames f.before.items f.line f.words).marks ++ opened ∷ []; blocks = length frames + 1; pending = false }
+progress-open frames f line e =
     let n : length (frames ++ f ∷ []) ≡ length frames + 1 = length-append frames (f ∷ []) in
-    let m : joined (map frame_marks (frames ++ f ∷ [])) ++ [] ++ [] ≡ (progress_of frames done line (w ∷ ws)).marks ++ opened ∷ [] =
-    rw (joined_push frame_marks frames f) (regroup-open (joined (map frame_marks frames)) (marks_of done) (pending_marks line (w ∷ ws)) (opened ∷ [])) in
+    let m : joined (map frame_marks (frames ++ f ∷ [])) ++ [] ++ [] ≡ (progress_of frames f.before.items f.line f.words).marks ++ opened ∷ [] =
+    rw (joined_push frame_marks frames f, pending-some f.line f.words e)
+    (regroup-open (joined (map frame_marks frames)) (marks_of f.before.items) (begins f.line ∷ map has f.words) (opened ∷ [])) in
     ap (λ k. record { marks = joined (map frame_marks (frames ++ f ∷ [])) ++ [] ++ []; blocks = k; pending = false }) n
     ∙ ap (λ k. record { marks = k; blocks = length frames + 1; pending = false }) m
 
@@ -54,14 +57,14 @@ regroup-close : (F B W O D C : List Mark) → (F ++ (B ++ (W ++ ((O ++ D) ++ C))
 regroup-close F B W O D C = simp (append_assoc, append-nil)
 
 pub progress-close : (frames : List Frame) (f : Frame) (done : List Directive) (line : ℕ) (words : List (List ℕ)) → some_word words ≡ false →
-    progress_of frames (f.before ++ roll-Directive (record { words = f.words; line = f.line; block = Some done }) ∷ []) line words
+    progress_of frames (f.before.items ++ roll-Directive (record { words = f.words; line = f.line; block = Some done }) ∷ []) line words
     ≡ record { marks = (progress_of (frames ++ f ∷ []) done line words).marks ++ closed ∷ []; blocks = length (frames ++ f ∷ []) - 1; pending = false }
 progress-close frames f done line (w ∷ ws) e = absurd (cc)
 progress-close frames f done line [] e =
     let n : length frames ≡ length (frames ++ f ∷ []) - 1 = omega (arith, length-append frames (f ∷ [])) in
-    let m : joined (map frame_marks frames) ++ marks_of (f.before ++ roll-Directive (record { words = f.words; line = f.line; block = Some done }) ∷ []) ++ []
+    let m : joined (map frame_marks frames) ++ marks_of (f.before.items ++ roll-Directive (record { words = f.words; line = f.line; block = Some done }) ∷ []) ++ []
     ≡ joined (map frame_marks (frames ++ f ∷ [])) ++ marks_of done ++ [] ++ closed ∷ [] =
-    rw (joined_push directive_marks f.before, marks-block f.words f.line done, joined_push frame_marks frames f)
-    (regroup-close (joined (map frame_marks frames)) (marks_of f.before) (begins f.line ∷ map has f.words) (opened ∷ []) (marks_of done) (closed ∷ [])) in
+    rw (joined_push directive_marks f.before.items, marks-block f.words f.line done, joined_push frame_marks frames f)
+    (regroup-close (joined (map frame_marks frames)) (marks_of f.before.items) (begins f.line ∷ map has f.words) (opened ∷ []) (marks_of done) (closed ∷ [])) in
     ap (λ k. record { marks = k; blocks = length frames; pending = false }) m
     ∙ ap (λ k. record { marks = joined (map frame_marks (frames ++ f ∷ [])) ++ marks_of done ++ [] ++ closed ∷ []; blocks = k; pending = false }) n

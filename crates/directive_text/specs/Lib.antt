@@ -1,8 +1,6 @@
 pub mod Bytes
-pub mod Lexemes
-pub mod Steps
-pub mod Marks
+pub mod Spelling
 pub mod Faults
-pub mod Progress
+pub mod Marks
 pub mod Printing
-pub mod Reading
+pub mod Internals

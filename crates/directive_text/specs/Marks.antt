@@ -1,9 +1,5 @@
 -- A tree written out flat, as what its text says in order.
-use Rattle.std.specs.Prelude.{ℕ, Bool, List, [], ◌∷◌, ◌++◌, Option, None, Some, map, if◌then◌else◌}
-use Rattle.directive_text.specs.declared.token.Token.{Token}
-use Rattle.directive_text.specs.declared.token.Lexeme.{Lexeme}
-use Rattle.directive_text.specs.declared.token.Lexeme.TheVariants.{Word, Semicolon, Opening, Closing, Misplaced, End}
-use Rattle.directive_text.specs.Faults.{is_word}
+use Rattle.std.specs.Prelude.{ℕ, List, [], ◌∷◌, ◌++◌, Option, None, Some, map}
 use Rattle.directive_text.specs.declared.tree.Directive.{Directive}
 use Rattle.directive_text.specs.declared.tree.Directive.TheOpen.{Directive-F}
 use Rattle.directive_text.specs.declared.tree.Directive.TheFolds.{fold-Directive}
@@ -37,17 +33,3 @@ directive_marks = fold-Directive (List Mark) marks_step
 -- the marks of directives in their order
 abbrev pub marks_of : List Directive → List Mark
 marks_of ds = joined (map directive_marks ds)
-
--- the marks of one lexeme on a line
-abbrev pub lexeme_marks : Bool → ℕ → Lexeme → List Mark
-lexeme_marks pending line (Word w) = if pending then has w ∷ [] else begins line ∷ has w ∷ []
-lexeme_marks pending line Semicolon = ended ∷ []
-lexeme_marks pending line Opening = opened ∷ []
-lexeme_marks pending line Closing = closed ∷ []
-lexeme_marks pending line Misplaced = []
-lexeme_marks pending line End = []
-
--- the marks of tokens: a directive begins at a word where none is pending
-abbrev pub token_marks : Bool → List Token → List Mark
-token_marks pending [] = []
-token_marks pending (t ∷ ts) = lexeme_marks pending t.line t.lexeme ++ token_marks (is_word t.lexeme) ts

@@ -1,9 +1,12 @@
-ghost use Rattle.std.specs.Prelude.{◌≡◌, ◌<◌, ◌+◌, ◌-◌, true, false, [], ◌∷◌, ◌++◌, OnOk};
-ghost use Rattle.directive_text.specs.Marks.{ended, opened, closed, marks_of, lexeme_marks};
-ghost use Rattle.directive_text.specs.Faults.{kind_at, blocks_after, is_word};
-ghost use Rattle.directive_text.specs.Progress.{Progress, some_word};
+ghost use Rattle.std.specs.Prelude.{◌≡◌, ◌<◌, ◌+◌, ◌-◌, true, false, [], ◌∷◌, ◌++◌, IfOk, OnOk};
+ghost use Rattle.directive_text.specs.Marks.{ended, opened, closed, marks_of};
+ghost use Rattle.directive_text.specs.Internals.Tokens.{lexeme_marks};
+ghost use Rattle.directive_text.specs.Internals.Tokens.{kind_at, blocks_after, is_word};
+ghost use Rattle.directive_text.specs.Internals.Progress.{Progress, some_word};
+ghost use Rattle.directive_text.specs.Internals.Steps.{lexeme_of};
+ghost use Rattle.directive_text.specs.Internals.Lexemes.{Lexeme, word};
 
-use crate::token::{Lexeme, Token};
+use crate::symbol::{PlacedSymbol, Symbol};
 use crate::tree::{Directive, Tree};
 use sqlite_items::Items;
 use std::alloc::Global;
@@ -17,7 +20,7 @@ pub const MAX_BLOCKS: usize = 16;
 /// A directive whose block is open, with the directives before it in the block that holds it.
 #[derive(Drop)]
 pub(crate) struct Frame {
-    before: Items<Directive>,
+    before: Vec<Directive>,
     words: Items<Text>,
     line: u64,
 }
@@ -26,17 +29,27 @@ pub(crate) struct Frame {
 #[derive(Drop)]
 pub(crate) struct Builder {
     open: Vec<Frame>,
-    done: Items<Directive>,
+    done: Vec<Directive>,
     line: u64,
-    words: Items<Text>,
+    words: Vec<Text>,
 }
 
 impl Model for Builder {
-    ghost use Rattle.directive_text.specs.Progress.{Progress, progress_of};
+    ghost use Rattle.directive_text.specs.Internals.Progress.{Progress, progress_of};
 
     ghost Value = { Progress };
 
-    ghost view = { λ b. progress_of b.open.items b.done b.line b.words };
+    ghost view = { λ b. progress_of b.open.items b.done.items b.line b.words.items };
+}
+
+/// Moves items into a list that takes just the room of these.
+fn exactly<T: Drop>(alloc: Global, items: &mut Vec<T>) -> Result<Items<T>, NoMemory>
+    ensures same { IfOk result (λ moved. moved ≡ items.old.items) }
+    ensures rest { OnOk result (items.new.items ≡ []) }
+{
+    let mut moved = Vec::with_capacity(alloc, items.len())?;
+    moved.append(items)?;
+    Ok(Items::from_vec(moved))
 }
 
 /// Whether there is a word.
@@ -49,14 +62,14 @@ fn some_word(words: &[Text]) -> bool
     }
 }
 
-/// The kind of the fault that a lexeme is where some blocks are open, and words are pending or not.
-fn kind_at(blocks: usize, pending: bool, lexeme: &Lexeme) -> Option<u32>
-    ensures { result ≡ kind_at blocks pending lexeme.now }
+/// The kind of the fault that a symbol is where some blocks are open, and words are pending or not.
+fn kind_at(blocks: usize, pending: bool, symbol: &Symbol) -> Option<u32>
+    ensures { result ≡ kind_at blocks pending (lexeme_of symbol.now) }
 {
-    match lexeme {
-        Lexeme::Word(_) => None,
-        Lexeme::Semicolon => if pending { None } else { Some(3) },
-        Lexeme::Opening => {
+    match symbol {
+        Symbol::Word(_) => None,
+        Symbol::Semicolon => if pending { None } else { Some(3) },
+        Symbol::Opening => {
             if !pending {
                 Some(4)
             } else if blocks < MAX_BLOCKS {
@@ -65,13 +78,13 @@ fn kind_at(blocks: usize, pending: bool, lexeme: &Lexeme) -> Option<u32>
                 Some(7)
             }
         }
-        Lexeme::Closing => if pending || blocks == 0 {
+        Symbol::Closing => if pending || blocks == 0 {
             Some(5)
         } else {
             None
         },
-        Lexeme::Misplaced => Some(6),
-        Lexeme::End => if pending || 0 < blocks { Some(2) } else { None },
+        Symbol::Misplaced => Some(6),
+        Symbol::End => if pending || 0 < blocks { Some(2) } else { None },
     }
 }
 
@@ -82,28 +95,28 @@ impl Builder {
     {
         Builder {
             open: Vec::new(alloc),
-            done: Items::new(alloc),
+            done: Vec::new(alloc),
             line: 0,
-            words: Items::new(alloc),
+            words: Vec::new(alloc),
         }
     }
 
-    /// The kind of the fault that a lexeme is here.
-    pub(crate) fn kind_of(&self, lexeme: &Lexeme) -> Option<u32>
-        ensures { result ≡ kind_at self.now.blocks self.now.pending lexeme.now }
+    /// The kind of the fault that a symbol is here.
+    pub(crate) fn kind_of(&self, symbol: &Symbol) -> Option<u32>
+        ensures { result ≡ kind_at self.now.blocks self.now.pending (lexeme_of symbol.now) }
     {
-        kind_at(self.open.len(), some_word(self.words.as_slice()), lexeme)
+        kind_at(self.open.len(), some_word(&self.words), symbol)
     }
 
     /// A word of this line is read.
-    fn word(&mut self, line: u64, word: Text) -> Result<(), NoMemory>
+    fn word(&mut self, line: u64, value: Text) -> Result<(), NoMemory>
         ensures { OnOk result (self.new
-            ≡ record { marks = self.old.marks ++ lexeme_marks self.old.pending line (Lexeme.Word word); blocks = self.old.blocks; pending = true }) }
+            ≡ record { marks = self.old.marks ++ lexeme_marks self.old.pending line (word value); blocks = self.old.blocks; pending = true }) }
     {
-        if !some_word(self.words.as_slice()) {
+        if !some_word(&self.words) {
             self.line = line;
         }
-        self.words.push(word)?;
+        self.words.push(value)?;
         Ok(())
     }
 
@@ -117,7 +130,7 @@ impl Builder {
               pending = false;
             }) }
     {
-        let words = replace(&mut self.words, Items::new(alloc));
+        let words = exactly(alloc, &mut self.words)?;
         self.done.push(Directive {
             words,
             line: self.line,
@@ -136,8 +149,8 @@ impl Builder {
               pending = false;
             }) }
     {
-        let before = replace(&mut self.done, Items::new(alloc));
-        let words = replace(&mut self.words, Items::new(alloc));
+        let before = replace(&mut self.done, Vec::new(alloc));
+        let words = exactly(alloc, &mut self.words)?;
         let line = self.line;
         self.open.push(Frame {
             before,
@@ -148,7 +161,7 @@ impl Builder {
     }
 
     /// `}` is read.
-    fn close(&mut self) -> Result<(), NoMemory>
+    fn close(&mut self, alloc: Global) -> Result<(), NoMemory>
         requires pending { self.old.pending ≡ false }
         requires blocks { 0 < self.old.blocks }
         ensures { OnOk result (self.new
@@ -164,25 +177,26 @@ impl Builder {
                 words,
                 line,
             } = frame;
-            let block = Some(replace(&mut self.done, before));
+            let mut inner = replace(&mut self.done, before);
+            let block = Some(exactly(alloc, &mut inner)?);
             self.done.push(Directive { words, line, block })?;
         }
         Ok(())
     }
 
-    /// A token is read that is no fault here.
-    pub(crate) fn add(&mut self, alloc: Global, token: Token) -> Result<(), NoMemory>
-        requires { kind_at self.old.blocks self.old.pending token.lexeme ≡ None }
+    /// A symbol is read that is no fault here.
+    pub(crate) fn add(&mut self, alloc: Global, next: PlacedSymbol) -> Result<(), NoMemory>
+        requires { kind_at self.old.blocks self.old.pending (lexeme_of next.symbol) ≡ None }
         ensures { OnOk result (self.new
-            ≡ record { marks = self.old.marks ++ lexeme_marks self.old.pending token.line token.lexeme; blocks = blocks_after self.old.blocks token.lexeme; pending = is_word token.lexeme }) }
+            ≡ record { marks = self.old.marks ++ lexeme_marks self.old.pending next.line (lexeme_of next.symbol); blocks = blocks_after self.old.blocks (lexeme_of next.symbol); pending = is_word (lexeme_of next.symbol) }) }
     {
-        let Token { line, lexeme } = token;
-        match lexeme {
-            Lexeme::Word(word) => self.word(line, word),
-            Lexeme::Semicolon => self.end(alloc),
-            Lexeme::Opening => self.open(alloc),
-            Lexeme::Closing => self.close(),
-            Lexeme::Misplaced | Lexeme::End => Ok(()),
+        let PlacedSymbol { line, symbol } = next;
+        match symbol {
+            Symbol::Word(value) => self.word(line, value),
+            Symbol::Semicolon => self.end(alloc),
+            Symbol::Opening => self.open(alloc),
+            Symbol::Closing => self.close(alloc),
+            Symbol::Misplaced | Symbol::End => Ok(()),
         }
     }
 
@@ -192,8 +206,10 @@ impl Builder {
         requires pending { self.pending ≡ false }
         ensures { marks_of result.directives ≡ self.marks }
     {
+        let mut directives = self.done;
+        directives.shrink_to_fit();
         Tree {
-            directives: self.done,
+            directives: Items::from_vec(directives),
         }
     }
 }

@@ -3,15 +3,19 @@
 
 mod builder;
 mod bytes;
-pub mod fault;
-pub mod laws;
+mod fault;
+mod laws;
 mod reader;
 mod scanner;
-mod token;
-pub mod tree;
+mod symbol;
+mod tree;
 
 pub use builder::MAX_BLOCKS;
 pub use fault::TextFault;
+pub use laws::{
+    early_ends_are_on_the_last_line, faults_stay, printed_reads_back, spelled_fits,
+    texts_spell_or_fail,
+};
 pub use reader::read;
 pub use tree::{Directive, Tree};
 

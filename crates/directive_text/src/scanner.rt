@@ -1,10 +1,10 @@
 ghost use Rattle.std.specs.Prelude.{◌≡◌, ℕ, ◌+◌, ◌≤◌, ◌<◌, ◌^◌, true, false, [], ◌∷◌, length, drop, slice_index, ◌≢◌, MatchOption, OnOk, IfOk, IfSome};
 ghost use Rattle.directive_text.specs.Bytes.{is_blank, is_quote, below, ends_plain};
-ghost use Rattle.directive_text.specs.Steps.{Passes, ahead, begun, is_last};
-ghost use Rattle.directive_text.specs.Lexemes.{kept, ends, word, followed, between, comment, plain, plain_pair, quoted, quoted_pair, tokens_of};
+ghost use Rattle.directive_text.specs.Internals.Steps.{Passes, ahead, begun, is_last, lexeme_of, token_of};
+ghost use Rattle.directive_text.specs.Internals.Lexemes.{Lexeme, misplaced, kept, ends, followed, between, comment, plain, plain_pair, quoted, quoted_pair, tokens_of};
 
 use crate::bytes::{ends_plain, is_blank, is_quote, keeps_brace, may_follow, push_unescaped};
-use crate::token::{Lexeme, Token};
+use crate::symbol::{PlacedSymbol, Symbol};
 use memchr::memchr;
 use std::alloc::Global;
 use zone_outside::{NoMemory, Text};
@@ -160,7 +160,7 @@ impl<'t> Scanner<'t> {
     fn is_misplaced(&self) -> bool
         ensures misplaced { result
             ≡ true → ahead self.now.after_quote self.now.line self.now.left.now
-            ≡ record { line = self.now.line; lexeme = Lexeme.Misplaced } ∷ [] }
+            ≡ record { line = self.now.line; lexeme = misplaced } ∷ [] }
         ensures other { result
             ≡ false → ahead self.now.after_quote self.now.line self.now.left.now
             ≡ between self.now.line self.now.left.now }
@@ -175,90 +175,90 @@ impl<'t> Scanner<'t> {
     }
 
     /// The quoted word that begins here.
-    fn quoted_lexeme(&mut self, alloc: Global, quote: u8) -> Result<Lexeme, NoMemory>
+    fn quoted_symbol(&mut self, alloc: Global, quote: u8) -> Result<Symbol, NoMemory>
         requires next { self.old.left.now ≡ quote ∷ drop 1 self.old.left.now }
         requires quote { is_quote quote ≡ true }
-        ensures first { IfOk result (λ lexeme. between self.old.line self.old.left.now
+        ensures first { IfOk result (λ symbol. between self.old.line self.old.left.now
             ≡ record {
               line = self.old.line;
-              lexeme = lexeme;
+              lexeme = lexeme_of symbol;
             } ∷ ahead true self.new.line self.new.left.now) }
-        ensures more { IfOk result (λ lexeme. is_last lexeme ≡ false) }
+        ensures more { IfOk result (λ symbol. is_last (lexeme_of symbol) ≡ false) }
         ensures fewer { length self.new.left.now < length self.old.left.now }
     {
         self.pass(quote);
         let mut value = Vec::new(alloc);
         self.quoted_word(&mut value, quote)?;
-        Ok(Lexeme::Word(Text::from_vec(value)))
+        Ok(Symbol::Word(Text::of(alloc, &value)?))
     }
 
     /// The plain word that begins here.
-    fn plain_lexeme(&mut self, alloc: Global, byte: u8) -> Result<Lexeme, NoMemory>
+    fn plain_symbol(&mut self, alloc: Global, byte: u8) -> Result<Symbol, NoMemory>
         requires next { self.old.left.now ≡ byte ∷ drop 1 self.old.left.now }
         requires inside { ends_plain false byte ≡ false }
         requires begins { (byte ≢ 35) × (byte ≢ 125) × (is_quote byte ≡ false) }
-        ensures first { IfOk result (λ lexeme. between self.old.line self.old.left.now
+        ensures first { IfOk result (λ symbol. between self.old.line self.old.left.now
             ≡ record {
               line = self.old.line;
-              lexeme = lexeme;
+              lexeme = lexeme_of symbol;
             } ∷ ahead false self.new.line self.new.left.now) }
-        ensures more { IfOk result (λ lexeme. is_last lexeme ≡ false) }
+        ensures more { IfOk result (λ symbol. is_last (lexeme_of symbol) ≡ false) }
         ensures fewer { length self.new.left.now < length self.old.left.now }
     {
         let mut value = Vec::new(alloc);
         let dollar = self.plain_byte(&mut value, false, byte)?;
         self.plain_word(&mut value, dollar)?;
-        Ok(Lexeme::Word(Text::from_vec(value)))
+        Ok(Symbol::Word(Text::of(alloc, &value)?))
     }
 
-    /// The lexeme that begins with this byte.
-    fn lexeme(&mut self, alloc: Global, byte: u8) -> Result<Lexeme, NoMemory>
+    /// The symbol that begins with this byte.
+    fn symbol(&mut self, alloc: Global, byte: u8) -> Result<Symbol, NoMemory>
         requires next { self.old.left.now ≡ byte ∷ drop 1 self.old.left.now }
         requires begins { (is_blank byte ≡ false) × (byte ≢ 35) }
-        ensures first { IfOk result (λ lexeme. between self.old.line self.old.left.now
+        ensures first { IfOk result (λ symbol. between self.old.line self.old.left.now
             ≡ record {
               line = self.old.line;
-              lexeme = lexeme;
+              lexeme = lexeme_of symbol;
             } ∷ ahead (is_quote byte) self.new.line self.new.left.now) }
-        ensures more { IfOk result (λ lexeme. is_last lexeme ≡ false) }
+        ensures more { IfOk result (λ symbol. is_last (lexeme_of symbol) ≡ false) }
         ensures fewer { length self.new.left.now < length self.old.left.now }
     {
         if is_quote(byte) {
-            return self.quoted_lexeme(alloc, byte);
+            return self.quoted_symbol(alloc, byte);
         }
-        let lexeme = match byte {
-            b';' => Lexeme::Semicolon,
-            b'{' => Lexeme::Opening,
-            b'}' => Lexeme::Closing,
-            _ => return self.plain_lexeme(alloc, byte),
+        let symbol = match byte {
+            b';' => Symbol::Semicolon,
+            b'{' => Symbol::Opening,
+            b'}' => Symbol::Closing,
+            _ => return self.plain_symbol(alloc, byte),
         };
         self.pass(byte);
-        Ok(lexeme)
+        Ok(symbol)
     }
 
-    /// The next token.
-    pub(crate) fn next(&mut self, alloc: Global) -> Result<Token, NoMemory>
+    /// The next symbol.
+    pub(crate) fn next(&mut self, alloc: Global) -> Result<PlacedSymbol, NoMemory>
         ensures first { IfOk result
-            (λ token. ahead self.old.after_quote self.old.line self.old.left.now
-            ≡ begun token (ahead self.new.after_quote self.new.line self.new.left.now)) }
-        ensures fewer { IfOk result (λ token. is_last token.lexeme
+            (λ next. ahead self.old.after_quote self.old.line self.old.left.now
+            ≡ begun (token_of next) (ahead self.new.after_quote self.new.line self.new.left.now)) }
+        ensures fewer { IfOk result (λ next. is_last (lexeme_of next.symbol)
             ≡ false → length self.new.left.now < length self.old.left.now) }
     {
         if self.is_misplaced() {
-            return Ok(Token {
+            return Ok(PlacedSymbol {
                 line: self.line,
-                lexeme: Lexeme::Misplaced,
+                symbol: Symbol::Misplaced,
             });
         }
         let next = self.skip_blank();
         let line = self.line;
         let Some(byte) = next else {
-            let lexeme = Lexeme::End;
-            return Ok(Token { line, lexeme });
+            let symbol = Symbol::End;
+            return Ok(PlacedSymbol { line, symbol });
         };
-        let lexeme = self.lexeme(alloc, byte)?;
+        let symbol = self.symbol(alloc, byte)?;
         self.after_quote = is_quote(byte);
-        Ok(Token { line, lexeme })
+        Ok(PlacedSymbol { line, symbol })
     }
 }
 

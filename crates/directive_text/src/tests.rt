@@ -160,3 +160,13 @@ fn bytes_are_no_text(rt: HostRuntime) -> Result<(), AllocError> {
     assert!(rt; found.as_slice() == b"1[\xff\x80][\xc3];".as_slice());
     Ok(())
 }
+
+#[test]
+fn faults_have_a_text(rt: HostRuntime) -> Result<(), AllocError> {
+    let fault = TextFault::At { line: 12, kind: 3 };
+    let text = format!(in rt.alloc(); "{fault}")?;
+    assert!(rt; text.as_str() == "line 12: `;` without a word");
+    let text = format!(in rt.alloc(); "{}", TextFault::NoMemory)?;
+    assert!(rt; text.as_str() == "no memory for the directives");
+    Ok(())
+}

@@ -1,13 +1,13 @@
 -- The joints of a queue: where they stand, what is beside them, and what linking two of them leaves.
-use Rattle.std.proofs.Common.{ℕ, ◌≡◌, ◌≢◌, ◌⊎◌, ◌+◌, ◌*◌, ◌^◌, ◌≤◌, List, [], ◌∷◌, ◌++◌, length, inl, inr, sym, ap, subst, ◌∙◌, refl, arith}
+use Rattle.std.proofs.Common.{ℕ, ◌≡◌, ◌≢◌, ◌+◌, ◌*◌, ◌^◌, ◌≤◌, List, [], ◌∷◌, ◌++◌, length, inl, inr, sym, ap, subst, ◌∙◌, refl, arith}
 use Rattle.std.proofs.lemmas.Grind.{common_steps}
 use Rattle.zone_region.specs.Words.{Words, word_at}
 use Rattle.zone_region.specs.Members.{In, IsDistinct}
 use Rattle.zone_region.specs.Holding.{HoldsBlocks}
 use Rattle.zone_region.proofs.MembersLemmas.{In-append_left, In-append_right, In-split}
 use Rattle.offset_queue.specs.declared.queue.Queue.{Queue}
-use Rattle.offset_queue.specs.Queue.{offset_of, head_joint, AreLinked, IsChain, HasLinks, IsQueue, ChangesLinks}
-use Rattle.offset_queue.specs.Joining.{IsJoint, joint_from, Joins}
+use Rattle.offset_queue.specs.Queue.{offset_of, head_joint, AreLinked, HasLinks, IsQueue, ChangesLinks}
+use Rattle.offset_queue.specs.Inside.{IsJoint, joint_from, Joins}
 use Rattle.offset_queue.proofs.Chains.{front_of, back_of, chain_front, chain_back, chain_split, back_in}
 
 -- the block of a joint is one of the queue's

@@ -1,13 +1,12 @@
 -- What each call leaves of a queue.
-use Rattle.std.proofs.Common.{ℕ, ◌≡◌, ◌≢◌, ◌⊎◌, ◌+◌, ◌*◌, ◌≤◌, List, [], ◌∷◌, ◌++◌, length, inl, inr, sym, ap, subst, ◌∙◌, refl, arith}
-use Rattle.zone_region.specs.Words.{Words, word_at}
-use Rattle.zone_region.specs.Members.{In, IsDistinct}
-use Rattle.zone_region.specs.Holding.{HoldsBlocks}
+use Rattle.std.proofs.Common.{ℕ, ◌≡◌, ◌≢◌, ◌⊎◌, List, [], ◌∷◌, ◌++◌, length, inl, inr, sym, ap, subst, ◌∙◌, refl, arith}
+use Rattle.zone_region.specs.Words.{Words}
+use Rattle.zone_region.specs.Members.{In}
 use Rattle.zone_region.proofs.HoldingLemmas.{holds_some, holds_kept, holds_one}
 use Rattle.zone_region.proofs.MembersLemmas.{In-append_left, In-append_right, In-more, In-moved, In-middle, IsDistinct-split, IsDistinct-moved}
 use Rattle.offset_queue.specs.declared.queue.Queue.{Queue}
-use Rattle.offset_queue.specs.Queue.{head_joint, AreLinked, IsChain, HasLinks, IsHead, IsQueue, CanPush, ChangesLinks}
-use Rattle.offset_queue.specs.Joining.{IsJoint, Joins}
+use Rattle.offset_queue.specs.Queue.{head_joint, AreLinked, HasLinks, IsHead, IsQueue, CanPush, ChangesLinks}
+use Rattle.offset_queue.specs.Inside.{IsJoint, Joins}
 use Rattle.offset_queue.proofs.Chains.{front_of, back_of, chain_split, chain_joined, chain_onward, linked_kept}
 use Rattle.offset_queue.proofs.Joints.{joint_more, front_joint, back_joint, keeps_next, keeps_prev, joins_links}
 

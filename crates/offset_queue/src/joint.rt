@@ -1,9 +1,9 @@
 ghost use Rattle.std.specs.Prelude.{◌≡◌, ◌≢◌, ℕ, ◌+◌, ◌*◌, ◌^◌, ◌≤◌, List, length};
 ghost use Rattle.offset_queue.specs.Queue.{offset_of, head_joint, AreLinked, IsQueue};
-ghost use Rattle.offset_queue.specs.Joining.{IsJoint, joint_from, Joins};
+ghost use Rattle.offset_queue.specs.Inside.{IsJoint, joint_from, Joins};
 
 use crate::queue::Queue;
-use zone_region::blocks::{Block, Blocks, read};
+use zone_region::{Block, Blocks, read};
 
 /// Where two link words begin, previous and next: those of the head, or of an entry.
 #[derive(Clone, Copy)]

@@ -1,4 +1,4 @@
-use zone_region::blocks::Block;
+use zone_region::Block;
 
 /// A circular queue with links both ways, as nginx's `ngx_queue_t`.
 ///

@@ -1,5 +1,5 @@
 -- Some of three blocks in a queue.
-use Rattle.std.proofs.Common.{ℕ, true, false, ◌≡◌, ◌≤◌, List, [], ◌∷◌, ◌++◌, length, Some, None, MatchOption, arith, inl, inr, subst, sym, refl}
+use Rattle.std.proofs.Common.{ℕ, true, false, ◌≡◌, List, [], ◌∷◌, ◌++◌, length, Some, None, MatchOption, arith, inl, inr, subst, sym, refl}
 use Rattle.std.specs.Option.{is_some}
 use Rattle.std.specs.declared.option.Option.{Option}
 use Rattle.zone_region.specs.declared.blocks.Block.{Block}

@@ -5,18 +5,12 @@ ghost use Rattle.offset_tree.specs.Bounds.{search_cost};
 ghost use Rattle.offset_tests.specs.Grid.{place_of, key_at, rank_at, HasTree, LacksKey};
 
 use crate::keys::Keys;
-use offset_tree::find::find;
-use offset_tree::init::init;
-use offset_tree::insert::insert;
-use offset_tree::remove::remove;
-use offset_tree::tree::Tree;
+use offset_tree::Tree;
 use std::alloc::Global;
 use std::sync::ledger::Ledger;
 use zone_key::{Key, crc32};
 use zone_outside::NoMemory;
-use zone_region::blocks::{Block, Blocks};
-use zone_region::memory::MemBlocks;
-use zone_region::steps::Steps;
+use zone_region::{Block, Blocks, MemBlocks, Steps};
 
 /// Block `k` of the grid.
 pub fn place(k: u64) -> Block
@@ -33,10 +27,10 @@ fn write_key(blocks: &mut MemBlocks, t: &Tree, keys: &Keys, k: u64, key: &Key)
     requires few { length keys.now.numbers.items ≤ 65536 }
     requires short { keys.now.len ≤ 8 }
     requires key { key.now ≡ key_at keys.now k }
-    requires room { length (words_in blocks.old.entries.items (place_of k)) ≡ 16 }
-    ensures lengths { (z : ℕ) → length (words_in blocks.new.entries.items z) ≡ length (words_in blocks.old.entries.items z) }
-    ensures others { (z : ℕ) → z ≢ place_of k → words_in blocks.new.entries.items z ≡ words_in blocks.old.entries.items z }
-    ensures rank { rank_of (words_in blocks.new.entries.items) t.now.form (place_of k) ≡ rank_at keys.now k }
+    requires room { length (words_in blocks.old.entries (place_of k)) ≡ 16 }
+    ensures lengths { (z : ℕ) → length (words_in blocks.new.entries z) ≡ length (words_in blocks.old.entries z) }
+    ensures others { (z : ℕ) → z ≢ place_of k → words_in blocks.new.entries z ≡ words_in blocks.old.entries z }
+    ensures rank { rank_of (words_in blocks.new.entries) t.now.form (place_of k) ≡ rank_at keys.now k }
 {
     let b = place(k);
     let number = keys.numbers[k as usize];
@@ -56,7 +50,7 @@ pub fn laid_out(alloc: Global, t: &Tree, keys: &Keys) -> Result<MemBlocks, NoMem
     requires context { t.now.context.at ≡ 4096 }
     requires few { length keys.now.numbers.items ≤ 65536 }
     requires short { keys.now.len ≤ 8 }
-    ensures { IfOk result (λ blocks. HasTree (words_in blocks.entries.items) t.now keys.now) }
+    ensures { IfOk result (λ blocks. HasTree (words_in blocks.entries) t.now keys.now) }
 {
     let mut blocks = MemBlocks::new(alloc);
     blocks.add(alloc, t.context, 16)?;
@@ -65,7 +59,7 @@ pub fn laid_out(alloc: Global, t: &Tree, keys: &Keys) -> Result<MemBlocks, NoMem
         blocks.add(alloc, place(k), 16)?;
         write_key(&mut blocks, t, keys, k, &key);
     }
-    init(&mut blocks, t);
+    t.init(&mut blocks);
     Ok(blocks)
 }
 
@@ -86,7 +80,7 @@ pub fn put_in<B: Blocks, L: Ledger>(
     ensures there { HasTree (B.words blocks.new) t.now keys.now }
     ensures cost { steps.new ≤ steps.old + (3 * search_cost (length keys.now.numbers.items) keys.now.len + 24) }
 {
-    insert(blocks, t, place(k), key, steps);
+    t.insert(blocks, place(k), key, steps);
 }
 
 /// Puts block `k` into the tree, or takes it out where it is there. Says whether it is there now.
@@ -105,9 +99,9 @@ pub fn toggle<B: Blocks, L: Ledger>(
     requires key { key.now ≡ key_at keys.now k }
     ensures { HasTree (B.words blocks.new) t.now keys.now }
 {
-    match find(blocks, t, crc32(key.bytes()), key, steps) {
+    match t.find(blocks, crc32(key.bytes()), key, steps) {
         Some(b) => {
-            remove(blocks, t, b);
+            t.remove(blocks, b);
             false
         }
         None => {

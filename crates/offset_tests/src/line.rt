@@ -2,10 +2,9 @@ ghost use Rattle.std.specs.Prelude.{◌≡◌, ℕ, List, [], ◌∷◌, true, I
 ghost use Rattle.zone_region.specs.Members.{In};
 ghost use Rattle.offset_tests.specs.Line.{full, FitsLine, IsLine, HasLine};
 
-use offset_queue::calls::{init, last, move_front, push_front, remove};
-use offset_queue::queue::Queue;
+use offset_queue::Queue;
 use zone_outside::NoMemory;
-use zone_region::blocks::{Block, Blocks};
+use zone_region::{Block, Blocks};
 
 /// A place in a full queue.
 #[derive(Clone, Copy, Debug)]
@@ -41,7 +40,7 @@ fn push<B: Blocks>(blocks: &mut B, q: &Queue, b: Block)
     ensures { (xs : List ℕ) → IsLine (B.words blocks.old) q.now xs → (In b.at xs → ⊥) →
         IsLine (B.words blocks.new) q.now (b.at ∷ xs) }
 {
-    push_front(blocks, q, b, 5);
+    q.push_front(blocks, b, 5);
 }
 
 /// Makes an empty queue.
@@ -49,7 +48,7 @@ pub fn begin<B: Blocks>(blocks: &mut B, q: &Queue)
     requires { FitsLine (B.words blocks.old) q.now }
     ensures { IsLine (B.words blocks.new) q.now [] }
 {
-    init(blocks, q);
+    q.init(blocks);
 }
 
 /// Puts the blocks at 8192, 8320 and 8448 into an empty queue, in this order.
@@ -69,8 +68,8 @@ pub fn apply<B: Blocks>(blocks: &mut B, q: &Queue, change: Change)
 {
     match change {
         Change::Nothing => {}
-        Change::ToFront(spot) => move_front(blocks, q, block_at(spot), 5),
-        Change::Out(spot) => remove(blocks, q, block_at(spot), 5),
+        Change::ToFront(spot) => q.move_front(blocks, block_at(spot), 5),
+        Change::Out(spot) => q.remove(blocks, block_at(spot), 5),
     }
 }
 
@@ -79,8 +78,8 @@ fn take_last<B: Blocks>(blocks: &mut B, q: &Queue) -> Option<Block>
     requires { HasLine (B.words blocks.old) q.now }
     ensures { HasLine (B.words blocks.new) q.now }
 {
-    let b = last(blocks, q, 5)?;
-    remove(blocks, q, b, 5);
+    let b = q.last(blocks, 5)?;
+    q.remove(blocks, b, 5);
     Some(b)
 }
 
@@ -95,5 +94,5 @@ pub fn drain<B: Blocks>(blocks: &mut B, q: &Queue, order: &mut Vec<u64>) -> Resu
             order.push(b.at)?;
         }
     }
-    Ok(last(blocks, q, 5).is_none())
+    Ok(q.last(blocks, 5).is_none())
 }

@@ -1,14 +1,12 @@
 use zone_outside::NoMemory;
-use zone_region::memory::MemBlocks;
+use zone_region::MemBlocks;
 
 /// Word `i` of the block at byte offset `at`, 0 where there is none.
 pub fn peek(blocks: &MemBlocks, at: u64, i: usize) -> u64 {
-    for entry in &blocks.entries {
-        if entry.0 == at {
-            return entry.1.get(i).copied().unwrap_or(0);
-        }
+    match blocks.entries.get(&at) {
+        Some(words) => words.get(i).copied().unwrap_or(0),
+        None => 0,
     }
-    0
 }
 
 /// A part of a tree: what is linked at `at`, under `parent`, at most so many blocks deep.

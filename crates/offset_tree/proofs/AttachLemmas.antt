@@ -4,12 +4,11 @@ use Rattle.std.proofs.lemmas.Bool.{cases_eq}
 use Rattle.zone_region.specs.Words.{Words, word_at, SetsWord}
 use Rattle.zone_region.proofs.WordLemmas.{word_at-set_same, word_at-set_block, word_at-set_index, length-set_word}
 use Rattle.offset_tree.specs.declared.side.Side.{Side}
-use Rattle.offset_tree.specs.Sides.{index_of}
-use Rattle.offset_tree.specs.Shape.{leaf, node, Path, top, step, plug, hits, hits_path}
-use Rattle.offset_tree.specs.Links.{LiesAround, IsShape, with_colour}
-use Rattle.offset_tree.specs.Moves.{ChangesTree}
-use Rattle.offset_tree.specs.Mending.{IsHole}
-use Rattle.offset_tree.specs.Attaching.{Gap, Cleared, Linked}
+use Rattle.offset_tree.specs.Inside.Sides.{child_word}
+use Rattle.offset_tree.specs.Inside.Shape.{leaf, node, Path, top, step, plug, hits, hits_path, IsHole}
+use Rattle.offset_tree.specs.Inside.Links.{LiesAround, IsShape, with_colour}
+use Rattle.offset_tree.specs.Inside.Moves.{ChangesTree}
+use Rattle.offset_tree.specs.Inside.Attaching.{Gap, Cleared, Linked}
 use Rattle.offset_tree.proofs.ShapeLemmas.{one-same, one-other, hits-plug}
 use Rattle.offset_tree.proofs.LiesLemmas.{same_word, LiesAround-same, Lies-plug, placed}
 use Rattle.offset_tree.proofs.Writes.{index-sum, index-low, index-other, replaced_step}
@@ -43,8 +42,8 @@ linked_around : (m n : Words) (nil context : ℕ) (k : Path) (p : ℕ) (side : S
 linked_around m n nil context top p side b q tidy live head hole l h = (word_at-set_same m n context 0 b (l.root hole) (omega (arith, head)), hole)
 linked_around m n nil context (step s c x far up) p side b q tidy live head hole l h =
     let i = live x (omega (arith, one-same x x refl)) in
-    let l' = subst (λ (z : ℕ). z ≢ 0 → SetsWord m n z (index_of side) b) hole.0 l.child in
-    let w = subst (λ (t : Side). SetsWord m n x (index_of t) b) hole.1 (l' i.1) in
+    let l' = subst (λ (z : ℕ). z ≢ 0 → SetsWord m n z (child_word side) b) hole.0 l.child in
+    let w = subst (λ (t : Side). SetsWord m n x (child_word t) b) hole.1 (l' i.1) in
     let h' = subst (λ (z : ℕ). LiesAround m nil (word_at m context 0) (step s c x far up) nil z) h.0 h in
     subst (λ (z : ℕ). LiesAround n nil (word_at n context 0) (step s c x far up) b z) (sym hole.0) (replaced_step m n nil context s c x far up nil b tidy i.0 i.2 w h')
 
@@ -112,7 +111,7 @@ attached_changes l m n context p side k b g c k' =
     let b_there : 0 < hits b t = omega (arith, count' b, one-same b b refl) in
     let away = λ (z : ℕ) (none : hits z t ≡ 0). let r : z ≢ b = λ e. let i : 0 < hits z t = subst (λ (q : ℕ). 0 < hits q t) (sym e) b_there in omega (arith, i, none) in r in
     let context_b : context ≢ b = λ e. g.fresh.apart.0 (sym e) in
-    let index_high : index_of side ≤ 2 = omega (arith, index-sum side, index-other side) in
+    let index_high : child_word side ≤ 2 = omega (arith, index-sum side, index-other side) in
     let low = index-low side in
     let first = λ (z i : ℕ) (h : (i ≡ 0) ⊎ (5 ≤ i)). elim (cases_eq z b) as (λ _. word_at m z i ≡ word_at l z i) [ inl e ↦ subst (λ (q : ℕ). word_at m q i ≡ word_at l q i) (sym e) (c.rest i h) | inr ne ↦ same_word l m z i (c.others z ne) ] in
     let flags = λ (z : ℕ). elim (cases_eq z b) as (λ _. word_at m z 4 / 256 ≡ word_at l z 4 / 256) [ inl e ↦ subst (λ (q : ℕ). word_at m q 4 / 256 ≡ word_at l q 4 / 256) (sym e) (ap (λ w. w / 256) c.colour ∙ with_colour-high (word_at l b 4) true) | inr ne ↦ ap (λ w. w / 256) (same_word l m z 4 (c.others z ne)) ] in
@@ -124,15 +123,15 @@ attached_changes l m n context p side k b g c k' =
       ];
       nodes = λ z i nc h. elim (cases_eq p 0) [
         | inl e ↦ word_at-set_block m n context 0 b z i (k'.root e) nc ∙ first z i h
-        | inr ne ↦ word_at-set_index m n p (index_of side) b z i (k'.child ne) (λ e. elim h [ inl q ↦ omega (arith, e, q, low) | inr q ↦ omega (arith, e, q, index_high) ]) ∙ first z i h
+        | inr ne ↦ word_at-set_index m n p (child_word side) b z i (k'.child ne) (λ e. elim h [ inl q ↦ omega (arith, e, q, low) | inr q ↦ omega (arith, e, q, index_high) ]) ∙ first z i h
       ];
       flags = λ z nc. elim (cases_eq p 0) [
         | inl e ↦ ap (λ w. w / 256) (word_at-set_block m n context 0 b z 4 (k'.root e) nc) ∙ flags z
-        | inr ne ↦ ap (λ w. w / 256) (word_at-set_index m n p (index_of side) b z 4 (k'.child ne) (λ e. omega (arith, e, index_high))) ∙ flags z
+        | inr ne ↦ ap (λ w. w / 256) (word_at-set_index m n p (child_word side) b z 4 (k'.child ne) (λ e. omega (arith, e, index_high))) ∙ flags z
       ];
       head = λ i h. elim (cases_eq p 0) [
         | inl e ↦ word_at-set_index m n context 0 b context i (k'.root e) h ∙ same_word l m context i (c.others context context_b)
-        | inr ne ↦ word_at-set_block m n p (index_of side) b context i (k'.child ne) (λ e. elim (gap_parent k p side g.hole) [ inl q ↦ ne q | inr j ↦ (g.shape.apart p (omega (arith, j, hits-plug p k leaf))).0 (sym e) ]) ∙ same_word l m context i (c.others context context_b)
+        | inr ne ↦ word_at-set_block m n p (child_word side) b context i (k'.child ne) (λ e. elim (gap_parent k p side g.hole) [ inl q ↦ ne q | inr j ↦ (g.shape.apart p (omega (arith, j, hits-plug p k leaf))).0 (sym e) ]) ∙ same_word l m context i (c.others context context_b)
       ];
     }
 

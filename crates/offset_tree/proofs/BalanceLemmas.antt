@@ -2,9 +2,9 @@
 use Rattle.std.proofs.Common.{ℕ, ◌≡◌, zero, suc, Bool, true, false, sym, ◌∙◌, refl}
 use Rattle.offset_tree.specs.declared.side.Side.{Side}
 use Rattle.offset_tree.specs.declared.side.Side.TheVariants.{Left, Right}
-use Rattle.offset_tree.specs.Sides.{other_of}
-use Rattle.offset_tree.specs.Shape.{Shape, branch, Path, top, step, plug}
-use Rattle.offset_tree.specs.Balance.{red_of, IsBalanced, wants_black, IsPathBalanced}
+use Rattle.offset_tree.specs.Inside.Sides.{other_of}
+use Rattle.offset_tree.specs.Inside.Shape.{Shape, branch, Path, top, step, plug}
+use Rattle.offset_tree.specs.Inside.Balance.{red_of, IsBalanced, wants_black, IsPathBalanced}
 
 pub branch-flip : (s : Side) (c : Bool) (near : Shape) (x : ℕ) (far : Shape) → branch (other_of s) c near x far ≡ branch s c far x near
 branch-flip Left c near x far = refl

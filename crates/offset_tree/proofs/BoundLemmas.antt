@@ -5,6 +5,7 @@ use Rattle.std.proofs.lemmas.Bool.{cases_eq, cases_lt, cases_order}
 use Rattle.std.proofs.lemmas.Nat.{pow_below}
 use Rattle.std.proofs.lemmas.Grind.{common_steps}
 use Rattle.offset_tree.specs.Bounds.{bits_up_to, bits, search_cost}
+use Rattle.offset_tree.specs.Laws.{DigitsLaw}
 
 bits_up_to-more : (most n : ℕ) → n ≢ 0 → bits_up_to (suc most) n ≡ suc (bits_up_to most (n / 2))
 bits_up_to-more most n h = grind (arith, common_steps)
@@ -38,12 +39,12 @@ bits_up_to-high (suc most) n le some =
     ])
 
 -- the greatest power of two that a number reaches has one digit less
-pub bits-low : (n h : ℕ) → 2 ^ h ≤ n → h < bits n
+bits-low : (n h : ℕ) → 2 ^ h ≤ n → h < bits n
 unfolding bits
 bits-low n h p = bits_up_to-low n n h (omega arith) p
 
 -- and two to the number of its digits is at most twice the number
-pub bits-high : (n : ℕ) → n ≢ 0 → 2 ^ bits n ≤ 2 * n
+bits-high : (n : ℕ) → n ≢ 0 → 2 ^ bits n ≤ 2 * n
 unfolding bits
 bits-high n some = bits_up_to-high n n (omega arith) some
 
@@ -63,11 +64,17 @@ put_in n len h depth start found used p d f u =
     let enough : 10 * h ≤ 2 * h * (5 + len / 8) = omega arith in
     omega (arith, d, f, u, enough, search_cost-low n len h p)
 
+bits-above : (n : ℕ) → n < 2 ^ bits n
+bits-above n = elim (cases_lt n (2 ^ bits n)) [ inl l ↦ l | inr ge ↦ absurd (omega (arith, bits-low n (bits n) ge)) ]
+
+pub digits-law : DigitsLaw
+digits-law n some = (bits-above n, bits-high n some)
+
 -- more blocks have no fewer digits
 bits-rises : (a b : ℕ) → a ≢ 0 → a ≤ b → bits a ≤ bits b
 bits-rises a b some le =
     let high = bits-high a some in
-    let low : b < 2 ^ bits b = elim (cases_lt b (2 ^ bits b)) [ inl l ↦ l | inr ge ↦ absurd (omega (arith, bits-low b (bits b) ge)) ] in
+    let low = bits-above b in
     let twice : 2 ^ suc (bits b) ≡ 2 * 2 ^ bits b = pow-suc (bits b) in
     elim (cases_order (bits a) (suc (bits b))) [
       | inl e ↦ absurd (let p : 2 ^ bits a ≡ 2 ^ suc (bits b) = ap (λ (x : ℕ). 2 ^ x) e in omega (arith, p, high, low, twice, le))

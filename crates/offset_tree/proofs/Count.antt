@@ -2,9 +2,10 @@
 use Rattle.std.proofs.Common.{ℕ, ◌≡◌, ◌+◌, ◌^◌, ◌<◌, ◌≤◌, zero, suc, List, subst, refl, arith, inl, inr}
 use Rattle.std.proofs.lemmas.Bool.{cases_eq}
 use Rattle.zone_region.specs.Words.{Words}
-use Rattle.offset_tree.specs.Shape.{Shape, branch, Path, top, step, plug, one, hits, hits_path}
-use Rattle.offset_tree.specs.Links.{IsShape}
-use Rattle.offset_tree.specs.Balance.{depth_of, Rising}
+use Rattle.offset_tree.specs.Inside.Shape.{Shape, branch, Path, top, step, plug, one, hits, hits_path}
+use Rattle.offset_tree.specs.Inside.Links.{IsShape}
+use Rattle.offset_tree.specs.Inside.Balance.{depth_of}
+use Rattle.offset_tree.specs.Inside.InsertFixup.{Rising}
 use Rattle.offset_tree.proofs.ShapeLemmas.{one-same, one-other, hits-plug}
 
 -- the sum of `f` below `n`

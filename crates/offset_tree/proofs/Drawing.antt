@@ -1,18 +1,18 @@
 -- From the layout of a list of blocks to a drawn tree, and back.
-use Rattle.std.proofs.Common.{ℕ, ◌≡◌, ◌≢◌, ◌+◌, ◌*◌, ◌^◌, ◌<◌, ◌≤◌, zero, suc, Bool, true, false, List, [], ◌∷◌, ◌++◌, length, sym, ap, subst, ◌∙◌, refl, arith, inl, inr}
+use Rattle.std.proofs.Common.{ℕ, ◌≡◌, ◌≢◌, ◌+◌, ◌^◌, ◌<◌, ◌≤◌, zero, suc, Bool, true, false, List, [], ◌∷◌, ◌++◌, length, sym, ap, subst, ◌∙◌, refl, arith, inl, inr}
 use Rattle.zone_region.specs.Words.{Words, word_at}
 use Rattle.offset_tree.specs.declared.tree.Tree.{Tree}
 use Rattle.zone_region.specs.Members.{In, IsDistinct}
 use Rattle.zone_region.specs.Holding.{HoldsBlocks}
 use Rattle.zone_region.proofs.HoldingLemmas.{holds_some, holds_kept, holds_one}
-use Rattle.offset_tree.specs.Keys.{Rank, HoldsKey, IsOrdered}
+use Rattle.offset_tree.specs.Keys.{Rank, IsOrdered}
 use Rattle.offset_tree.specs.Layout.{LaysPart, empty, red, black, LaysTree, IsContext, HasNodes, IsTree, CanInsert}
 use Rattle.offset_tree.specs.Changes.{MakesEmpty}
-use Rattle.offset_tree.specs.Shape.{Shape, leaf, node, blocks_of, hits}
-use Rattle.offset_tree.specs.Links.{Lies}
-use Rattle.offset_tree.specs.Balance.{red_of, IsBalanced, Settled}
-use Rattle.offset_tree.specs.Trees.{IsDrawn}
-use Rattle.offset_tree.specs.Inserting.{IsInsertable}
+use Rattle.offset_tree.specs.Inside.Shape.{Shape, leaf, node, blocks_of, hits}
+use Rattle.offset_tree.specs.Inside.Links.{Lies}
+use Rattle.offset_tree.specs.Inside.Balance.{red_of, IsBalanced, Settled}
+use Rattle.offset_tree.specs.Inside.Trees.{IsDrawn}
+use Rattle.offset_tree.specs.Inside.Inserting.{IsInsertable}
 use Rattle.offset_tree.proofs.Frames.{hits_in}
 use Rattle.offset_tree.proofs.TimesLemmas.{times, times-distinct, hits-times}
 

@@ -3,18 +3,15 @@ use Rattle.std.proofs.Common.{ℕ, ◌≡◌, ◌≢◌, ◌⊎◌, ◌+◌, ◌
 use Rattle.std.proofs.lemmas.Bool.{cases_eq}
 use Rattle.zone_region.specs.Words.{Words, word_at, SetsWord}
 use Rattle.zone_region.proofs.WordLemmas.{word_at-set_block, word_at-set_index, length-set_word}
-use Rattle.offset_tree.specs.Shape.{Shape, leaf, node, blocks_of, hits}
+use Rattle.offset_tree.specs.Inside.Shape.{Shape, leaf, node, blocks_of, hits}
 use Rattle.zone_region.specs.Members.{In}
-use Rattle.offset_tree.specs.Links.{SetsTwo, SetsParent, Replaces}
-use Rattle.offset_tree.specs.Moves.{ChangesTree}
+use Rattle.offset_tree.specs.Inside.Links.{SetsTwo, SetsParent, Replaces}
+use Rattle.offset_tree.specs.Inside.Moves.{ChangesTree}
 use Rattle.offset_tree.specs.Changes.{ChangesNodes}
 use Rattle.offset_tree.proofs.ShapeLemmas.{one-other}
 use Rattle.zone_region.proofs.MembersLemmas.{In-append_left, In-append_right}
 use Rattle.offset_tree.proofs.LiesLemmas.{same_word}
 use Rattle.offset_tree.proofs.Writes.{two_other, two_length}
-
-pub tree_unchanged : (m : Words) (context : ℕ) (t : Shape) → ChangesTree m m context t
-tree_unchanged m context t = record { lengths = λ z. refl; others = λ z nc none. refl; nodes = λ z i nc h. refl; flags = λ z nc. refl; head = λ i h. refl }
 
 pub tree_changed_twice : (l m n : Words) (context : ℕ) (t : Shape) → ChangesTree l m context t → ChangesTree m n context t → ChangesTree l n context t
 tree_changed_twice l m n context t a b = record {

@@ -10,15 +10,16 @@ use Rattle.offset_tree.specs.declared.tree.Tree.{Tree}
 use Rattle.offset_tree.specs.declared.tree.Form.{Form}
 use Rattle.offset_tree.specs.declared.side.Side.{Side}
 use Rattle.offset_tree.specs.declared.side.Side.TheVariants.{Left, Right}
-use Rattle.offset_tree.specs.Shape.{Shape, leaf, node, Path, top, step, plug, blocks_of, hits}
+use Rattle.offset_tree.specs.Inside.Shape.{Shape, leaf, node, Path, top, step, plug, blocks_of, hits}
 use Rattle.zone_region.specs.Members.{In, IsDistinct}
-use Rattle.offset_tree.specs.Links.{number_of, Lies, IsShape}
-use Rattle.offset_tree.specs.Balance.{red_of, IsBalanced, IsPathBalanced, depth_of, Settled, Rising}
+use Rattle.offset_tree.specs.Inside.Links.{colour_value, Lies, IsShape}
+use Rattle.offset_tree.specs.Inside.Balance.{red_of, IsBalanced, IsPathBalanced, depth_of, Settled}
+use Rattle.offset_tree.specs.Inside.InsertFixup.{Rising}
 use Rattle.offset_tree.specs.Changes.{ChangesNodes}
 use Rattle.offset_tree.specs.Keys.{Rank, rank_cmp, rank_of, byte_of, bytes_of, key_len, key_of, IsForm, HoldsKey, AllAfter, IsOrdered}
-use Rattle.offset_tree.specs.Attaching.{Gap}
-use Rattle.offset_tree.specs.Trees.{IsDrawn}
-use Rattle.offset_tree.specs.Inserting.{Descending, Opening, IsInsertable}
+use Rattle.offset_tree.specs.Inside.Attaching.{Gap}
+use Rattle.offset_tree.specs.Inside.Trees.{IsDrawn}
+use Rattle.offset_tree.specs.Inside.Inserting.{Descending, Opening, IsInsertable}
 use Rattle.offset_tree.proofs.ShapeLemmas.{one-same, hits-plug}
 use Rattle.zone_region.proofs.MembersLemmas.{In-append_cases, In-one_more, IsDistinct-join}
 use Rattle.offset_tree.proofs.BalanceLemmas.{placed_balanced}
@@ -106,7 +107,7 @@ descend_right m t rank xs tree at parent next side new d ne greater e ns = go d.
       }
 
 -- a way down is at most twice as long as the black height
-depth_balanced : (k : Path) (t : Shape) (g : ℕ) → IsBalanced (plug k t) g → (h : ℕ) × IsBalanced t h × (depth_of k + (2 * h + number_of (red_of t)) ≤ 2 * g + number_of (red_of (plug k t)))
+depth_balanced : (k : Path) (t : Shape) (g : ℕ) → IsBalanced (plug k t) g → (h : ℕ) × IsBalanced t h × (depth_of k + (2 * h + colour_value (red_of t)) ≤ 2 * g + colour_value (red_of (plug k t)))
 depth_balanced top t g b = (g, b, omega arith)
 depth_balanced (step Left c x far up) t g b =
     let u = depth_balanced up (node c t x far) g b in
@@ -126,7 +127,7 @@ opening_at m t rank xs h at parent side d e = go d.part d.whole d.lies where
   go leaf w l =
       let b = placed_balanced d.path leaf h.settled.height (subst (λ (u : Shape). IsBalanced u h.settled.height) (sym w) h.settled.balanced) (subst (λ (u : Shape). red_of u ≡ false) (sym w) h.settled.black) in
       let far = depth_balanced d.path leaf h.settled.height (subst (λ (u : Shape). IsBalanced u h.settled.height) (sym w) h.settled.balanced) in
-      let black : number_of (red_of (plug d.path leaf)) ≡ 0 = ap (λ q. number_of q) (ap (λ u. red_of u) w ∙ h.settled.black) in
+      let black : colour_value (red_of (plug d.path leaf)) ≡ 0 = ap (λ q. colour_value q) (ap (λ u. red_of u) w ∙ h.settled.black) in
       record {
         path = d.path;
         shape = subst (λ (u : Shape). IsShape m t.context.at u) (sym w) h.settled.shape;

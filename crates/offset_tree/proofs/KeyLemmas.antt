@@ -53,10 +53,6 @@ order_by_bytes hash there at ks ls r b is e t f =
     let same : nat_cmp hash there ≡ Equal = ap (λ (z : ℕ). nat_cmp hash z) (sym e) ∙ (sym is ∙ equal_told r b t f) in
     ap (λ (o : Ordering). ordering_then o (slice_cmp nat_cmp ks ls)) same
 
-pub order_by_hash : (hash there at : ℕ) (ks ls : List ℕ) (r : Ordering) (b : Bool) → r ≡ nat_cmp hash at → at ≡ there → b ≡ not (ordering_index r == 1) → b ≡ true → r ≡ rank_cmp (hash, ks) (there, ls)
-order_by_hash hash there at ks ls r b is e t f =
-    sym (unequal_then r (slice_cmp nat_cmp ks ls) b t f) ∙ ap (λ (o : Ordering). ordering_then o (slice_cmp nat_cmp ks ls)) (is ∙ ap (λ (z : ℕ). nat_cmp hash z) e)
-
 -- the byte at hand
 pub byte_at_hand : (m : Words) (x j word b : ℕ) → b ≡ word / 2 ^ (8 * (j % 8)) % 256 → word ≡ word_at m x (j / 8) → b ≡ byte_of m x j
 byte_at_hand m x j word b is e = is ∙ ap (λ (w : ℕ). w / 2 ^ (8 * (j % 8)) % 256) e

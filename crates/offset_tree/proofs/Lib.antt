@@ -7,11 +7,13 @@ pub mod TurnLemmas
 pub mod Frames
 pub mod Paints
 pub mod BalanceLemmas
-pub mod RepairLemmas
+pub mod SideLemmas
+pub mod NodeLemmas
+pub mod InsertFixup
 pub mod Count
 pub mod KeyLemmas
 pub mod SearchLemmas
-pub mod MendLemmas
+pub mod DeleteFixup
 pub mod AttachLemmas
 pub mod Drawing
 pub mod InsertLemmas

@@ -3,9 +3,9 @@ use Rattle.std.proofs.Common.{ℕ, ◌≡◌, ◌≢◌, ◌+◌, ◌%◌, ◌<�
 use Rattle.zone_region.specs.Words.{Words, word_at}
 use Rattle.offset_tree.specs.declared.side.Side.{Side}
 use Rattle.offset_tree.specs.declared.side.Side.TheVariants.{Left, Right}
-use Rattle.offset_tree.specs.Sides.{index_of, other_of}
-use Rattle.offset_tree.specs.Shape.{Shape, leaf, node, branch, Path, top, step, plug, one, hits, hits_path}
-use Rattle.offset_tree.specs.Links.{IsColoured, Lies, LiesAround}
+use Rattle.offset_tree.specs.Inside.Sides.{child_word, other_of}
+use Rattle.offset_tree.specs.Inside.Shape.{Shape, leaf, node, branch, Path, top, step, plug, one, hits, hits_path}
+use Rattle.offset_tree.specs.Inside.Links.{IsColoured, Lies, LiesAround}
 use Rattle.offset_tree.proofs.ShapeLemmas.{one-same}
 
 pub same_word : (m n : Words) (x i : ℕ) → n x ≡ m x → word_at n x i ≡ word_at m x i
@@ -27,8 +27,8 @@ pub record IsBranch (m : Words) (nil : ℕ) (s : Side) (c : Bool) (near : Shape)
   pub at : o ≡ x
   pub parent : word_at m x 3 ≡ p
   pub colour : IsColoured m x c
-  pub on_side : Lies m nil near (word_at m x (index_of s)) x
-  pub on_other : Lies m nil far (word_at m x (index_of (other_of s))) x
+  pub on_side : Lies m nil near (word_at m x (child_word s)) x
+  pub on_other : Lies m nil far (word_at m x (child_word (other_of s))) x
 
 pub branch_of : (m : Words) (nil : ℕ) (s : Side) (c : Bool) (near : Shape) (x : ℕ) (far : Shape) (o p : ℕ) → Lies m nil (branch s c near x far) o p → IsBranch m nil s c near x far o p
 branch_of m nil Left c near x far o p h = record { at = h.0; parent = h.1; colour = h.2; on_side = h.3; on_other = h.4 }
@@ -43,9 +43,9 @@ LiesAround-same m n nil root top o p same h = h
 LiesAround-same m n nil root (step s c x far up) o p same h =
     let e = same x (omega (arith, one-same x x refl)) in (
       h.0,
-      same_word m n x (index_of s) e ∙ h.1,
+      same_word m n x (child_word s) e ∙ h.1,
       ap (λ w. w % 256) (same_word m n x 4 e) ∙ h.2,
-      subst (λ (a : ℕ). Lies n nil far a x) (sym (same_word m n x (index_of (other_of s)) e)) (Lies-same m n nil far (word_at m x (index_of (other_of s))) x (λ z i. same z (omega (arith, i))) h.3),
+      subst (λ (a : ℕ). Lies n nil far a x) (sym (same_word m n x (child_word (other_of s)) e)) (Lies-same m n nil far (word_at m x (child_word (other_of s))) x (λ z i. same z (omega (arith, i))) h.3),
       subst (λ (a : ℕ). LiesAround n nil root up x a) (sym (same_word m n x 3 e)) (LiesAround-same m n nil root up x (word_at m x 3) (λ z i. same z (omega (arith, i))) h.4),
     )
 
@@ -72,7 +72,7 @@ placed m nil root top t h = (root, 0, record { around = (refl, refl); lies = h }
 placed m nil root (step s c x far up) t h =
     let u = placed m nil root up (branch s c t x far) h in
     let b = branch_of m nil s c t x far u.0 u.1 u.2.lies in (
-      word_at m x (index_of s),
+      word_at m x (child_word s),
       x,
       record {
         around = (refl, refl, b.colour, b.on_other, subst (λ (q : ℕ). LiesAround m nil root up x q) (sym b.parent) (subst (λ (q : ℕ). LiesAround m nil root up q u.1) b.at u.2.around));

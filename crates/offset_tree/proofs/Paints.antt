@@ -6,26 +6,26 @@ use Rattle.zone_region.specs.Words.{Words, word_at, SetsWord}
 use Rattle.zone_region.proofs.WordLemmas.{word_at-set_same, word_at-set_block, word_at-set_index, length-set_word}
 use Rattle.offset_tree.specs.declared.side.Side.{Side}
 use Rattle.offset_tree.specs.declared.side.Side.TheVariants.{Left, Right}
-use Rattle.offset_tree.specs.Sides.{index_of, other_of}
-use Rattle.offset_tree.specs.Shape.{Shape, leaf, node, branch, Path, plug, one, hits, hits_path}
-use Rattle.offset_tree.specs.Links.{number_of, IsColoured, Lies, LiesAround, IsShape, red_at, side_at, with_colour}
-use Rattle.offset_tree.specs.Balance.{red_of}
-use Rattle.offset_tree.specs.Moves.{ChangesTree}
+use Rattle.offset_tree.specs.Inside.Sides.{child_word, other_of}
+use Rattle.offset_tree.specs.Inside.Shape.{Shape, leaf, node, branch, Path, plug, one, hits, hits_path}
+use Rattle.offset_tree.specs.Inside.Links.{colour_value, IsColoured, Lies, LiesAround, IsShape, red_at, side_at, with_colour}
+use Rattle.offset_tree.specs.Inside.Balance.{red_of}
+use Rattle.offset_tree.specs.Inside.Moves.{ChangesTree}
 use Rattle.offset_tree.proofs.ShapeLemmas.{one-same, hits-branch, hits-plug}
 use Rattle.offset_tree.proofs.LiesLemmas.{Lies-same, LiesAround-same, IsBranch, branch_of, Lies-branch, Lies-plug, placed}
 use Rattle.offset_tree.proofs.Writes.{index-sum, index-low, index-other, hits_root}
 
-number-small : (c : Bool) → number_of c ≤ 1
+number-small : (c : Bool) → colour_value c ≤ 1
 number-small true = omega arith
 number-small false = omega arith
 
-pub with_colour-low : (w : ℕ) (c : Bool) → with_colour w c % 256 ≡ number_of c
-with_colour-low w c = let n : ℕ = number_of c in let small : n ≤ 1 = number-small c in lemma w n small where
+pub with_colour-low : (w : ℕ) (c : Bool) → with_colour w c % 256 ≡ colour_value c
+with_colour-low w c = let n : ℕ = colour_value c in let small : n ≤ 1 = number-small c in lemma w n small where
   lemma : (w n : ℕ) → n ≤ 1 → (w - w % 256 + n) % 256 ≡ n
   lemma w n small = omega arith
 
 pub with_colour-high : (w : ℕ) (c : Bool) → with_colour w c / 256 ≡ w / 256
-with_colour-high w c = let n : ℕ = number_of c in let small : n ≤ 1 = number-small c in lemma w n small where
+with_colour-high w c = let n : ℕ = colour_value c in let small : n ≤ 1 = number-small c in lemma w n small where
   lemma : (w n : ℕ) → n ≤ 1 → (w - w % 256 + n) / 256 ≡ w / 256
   lemma w n small = omega arith
 
@@ -66,16 +66,16 @@ painted l n context k s c d near x far h w =
     let sides = index-sum s in
     let low = index-low s in
     let low' = index-other s in
-    let at_side = at (index_of s) (λ e. omega (arith, e, sides)) in
-    let at_other = at (index_of (other_of s)) (λ e. omega (arith, e, sides)) in
+    let at_side = at (child_word s) (λ e. omega (arith, e, sides)) in
+    let at_other = at (child_word (other_of s)) (λ e. omega (arith, e, sides)) in
     let colour = word_at-set_same l n x 4 (with_colour (word_at l x 4) d) w (omega (arith, live_x.3)) in
     let root : word_at n context 0 ≡ word_at l context 0 = word_at-set_block l n x 4 (with_colour (word_at l x 4) d) context 0 w (λ e. live_x.0 (sym e)) in
     let is : IsBranch n nil s d near x far x p = record {
       at = refl;
       parent = at 3 (λ e. omega (arith, e)) ∙ P.is.parent;
       colour = ap (λ q. q % 256) colour ∙ with_colour-low (word_at l x 4) d;
-      on_side = subst (λ (q : ℕ). Lies n nil near q x) (sym at_side) (Lies-same l n nil near (word_at l x (index_of s)) x (λ z i. other z (omega (arith, i))) P.is.on_side);
-      on_other = subst (λ (q : ℕ). Lies n nil far q x) (sym at_other) (Lies-same l n nil far (word_at l x (index_of (other_of s))) x (λ z i. other z (omega (arith, i))) P.is.on_other);
+      on_side = subst (λ (q : ℕ). Lies n nil near q x) (sym at_side) (Lies-same l n nil near (word_at l x (child_word s)) x (λ z i. other z (omega (arith, i))) P.is.on_side);
+      on_other = subst (λ (q : ℕ). Lies n nil far q x) (sym at_other) (Lies-same l n nil far (word_at l x (child_word (other_of s))) x (λ z i. other z (omega (arith, i))) P.is.on_other);
     } in
     let around = subst (λ (q : ℕ). LiesAround n nil q k x p) (sym root) (LiesAround-same l n nil (word_at l context 0) k x p (λ z i. other z (omega (arith, i))) P.around) in
     let hits_same = λ (z : ℕ). let q : hits z (plug k (branch s d near x far)) ≡ hits z (plug k (branch s c near x far)) =
@@ -119,7 +119,7 @@ red_at_is m nil (node c l x r) o p live h =
     subst (λ (q : ℕ). red_at m nil q ≡ c) (sym h.0) (red_at-number m nil x c (live x (omega (arith, one-same x x refl))) h.2)
 
 -- the side of a block under its parent
-pub side_at_is : (m : Words) (nil : ℕ) (s : Side) (c : Bool) (near : Shape) (x : ℕ) (far : Shape) (o p q : ℕ) → o ≢ nil → hits o far ≡ 0 → word_at m x (index_of s) ≡ o → IsBranch m nil s c near x far p q → side_at m x o ≡ s
+pub side_at_is : (m : Words) (nil : ℕ) (s : Side) (c : Bool) (near : Shape) (x : ℕ) (far : Shape) (o p q : ℕ) → o ≢ nil → hits o far ≡ 0 → word_at m x (child_word s) ≡ o → IsBranch m nil s c near x far p q → side_at m x o ≡ s
 side_at_is m nil Left c near x far o p q live none at b = grind (arith, common_steps)
 side_at_is m nil Right c near x far o p q live none at b =
     let ne : word_at m x 1 ≢ o = λ e. let i = hits_root m nil far o x (subst (λ (y : ℕ). Lies m nil far y x) e b.on_other) live in omega (arith, i, none) in

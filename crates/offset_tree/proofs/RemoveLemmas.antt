@@ -3,14 +3,14 @@ use Rattle.std.proofs.Common.{ℕ, ◌≡◌, ◌≢◌, ◌+◌, ◌^◌, ◌<�
 use Rattle.std.proofs.lemmas.List.{append-nil}
 use Rattle.zone_region.specs.Words.{Words, word_at}
 use Rattle.offset_tree.specs.declared.side.Side.TheVariants.{Left, Right}
-use Rattle.offset_tree.specs.Shape.{Shape, leaf, node, Path, top, step, plug, blocks_of, hits}
+use Rattle.offset_tree.specs.Inside.Shape.{Shape, leaf, node, Path, top, step, plug, blocks_of, hits}
 use Rattle.zone_region.specs.Members.{In}
-use Rattle.offset_tree.specs.Links.{Lies, IsShape, SetsParent, Replaces, red_at}
-use Rattle.offset_tree.specs.Balance.{red_of, IsBalanced, Settled}
-use Rattle.offset_tree.specs.Mending.{OneSided}
+use Rattle.offset_tree.specs.Inside.Links.{Lies, IsShape, SetsParent, Replaces, red_at}
+use Rattle.offset_tree.specs.Inside.Balance.{red_of, IsBalanced, Settled}
+use Rattle.offset_tree.specs.Inside.DeleteFixup.{OneSided}
 use Rattle.offset_tree.proofs.BalanceLemmas.{placed_balanced, plug_balanced}
-use Rattle.offset_tree.specs.Attaching.{IsFresh, Filled}
-use Rattle.offset_tree.specs.Removing.{Seat, seated, Leftward}
+use Rattle.offset_tree.specs.Inside.Attaching.{IsFresh, Filled}
+use Rattle.offset_tree.specs.Inside.Removing.{Seat, seated, Leftward}
 use Rattle.offset_tree.proofs.ShapeLemmas.{one-same, hits-plug}
 use Rattle.zone_region.proofs.MembersLemmas.{In-append_left, In-append_right, In-append_cases, In-more}
 use Rattle.offset_tree.proofs.TimesLemmas.{times, times-append, hits-times}

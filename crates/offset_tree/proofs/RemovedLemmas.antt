@@ -1,5 +1,5 @@
 -- The list without a block, as a tree.
-use Rattle.std.proofs.Common.{ℕ, ◌≢◌, List, [], ◌∷◌, ◌++◌, ◌≤◌, length, subst, arith}
+use Rattle.std.proofs.Common.{ℕ, ◌≢◌, List, [], ◌∷◌, ◌++◌, subst, arith}
 use Rattle.zone_region.specs.Words.{Words}
 use Rattle.offset_tree.specs.declared.tree.Tree.{Tree}
 use Rattle.offset_tree.specs.declared.tree.Form.{Form}
@@ -7,7 +7,7 @@ use Rattle.zone_region.specs.Members.{In, IsDistinct}
 use Rattle.offset_tree.specs.Keys.{IsForm, AllAfter, IsOrdered}
 use Rattle.offset_tree.specs.Changes.{ChangesNodes}
 use Rattle.offset_tree.specs.Layout.{IsTree}
-use Rattle.offset_tree.specs.Balance.{Settled}
+use Rattle.offset_tree.specs.Inside.Balance.{Settled}
 use Rattle.zone_region.proofs.MembersLemmas.{In-more, IsDistinct-split}
 use Rattle.offset_tree.proofs.InsertLemmas.{rank_same, holds_key_same, ordered_same}
 use Rattle.offset_tree.proofs.Drawing.{lays_of, held_same}

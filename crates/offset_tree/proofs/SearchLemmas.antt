@@ -13,12 +13,12 @@ use Rattle.zone_region.specs.Words.{Words, word_at}
 use Rattle.offset_tree.specs.declared.tree.Tree.{Tree}
 use Rattle.offset_tree.specs.declared.tree.Form.{Form}
 use Rattle.offset_tree.specs.declared.side.Side.TheVariants.{Left, Right}
-use Rattle.offset_tree.specs.Shape.{Shape, leaf, node, Path, top, step, plug, blocks_of, hits}
+use Rattle.offset_tree.specs.Inside.Shape.{Shape, leaf, node, Path, top, step, plug, blocks_of, hits}
 use Rattle.zone_region.specs.Members.{In}
-use Rattle.offset_tree.specs.Links.{number_of, Lies, IsShape}
-use Rattle.offset_tree.specs.Balance.{red_of, IsBalanced, depth_of}
+use Rattle.offset_tree.specs.Inside.Links.{colour_value, Lies, IsShape}
+use Rattle.offset_tree.specs.Inside.Balance.{red_of, IsBalanced, depth_of}
 use Rattle.offset_tree.specs.Keys.{Rank, rank_cmp, rank_of, HoldsKey, AllAfter, IsOrdered}
-use Rattle.offset_tree.specs.Trees.{IsDrawn, Searching, Sought}
+use Rattle.offset_tree.specs.Inside.Trees.{IsDrawn, Searching, Sought}
 use Rattle.std.proofs.Math.Nat.{mul-le-mul_right}
 use Rattle.offset_tree.proofs.ShapeLemmas.{one-same, hits-plug}
 use Rattle.zone_region.proofs.MembersLemmas.{In-append_left, In-append_right, In-append_cases}
@@ -143,19 +143,19 @@ found_here m t rank xs at round n e = (n.within at (In-append_right at (blocks_o
 
 -- the black height of a child, and how much of the bound one node takes
 pub child_balanced : (c : Bool) (a : Shape) (x : ℕ) (b : Shape) (h : ℕ) → IsBalanced (node c a x b) h →
-    (k : ℕ) × IsBalanced a k × IsBalanced b k × (2 * k + number_of (red_of a) + 1 ≤ 2 * h + number_of c) × (2 * k + number_of (red_of b) + 1 ≤ 2 * h + number_of c)
-child_balanced true a x b h r = (h, r.2, r.3, omega (arith, ap (λ q. number_of q) r.0), omega (arith, ap (λ q. number_of q) r.1))
+    (k : ℕ) × IsBalanced a k × IsBalanced b k × (2 * k + colour_value (red_of a) + 1 ≤ 2 * h + colour_value c) × (2 * k + colour_value (red_of b) + 1 ≤ 2 * h + colour_value c)
+child_balanced true a x b h r = (h, r.2, r.3, omega (arith, ap (λ q. colour_value q) r.0), omega (arith, ap (λ q. colour_value q) r.1))
 child_balanced false a x b zero r = absurd r
 child_balanced false a x b (suc h) r = (h, r.0, r.1, omega (arith, small (red_of a)), omega (arith, small (red_of b))) where
-  small : (q : Bool) → number_of q ≤ 1
+  small : (q : Bool) → colour_value q ≤ 1
   small true = omega arith
   small false = omega arith
 
 pub record Goes (m : Words) (t : Tree) (rank : Rank) (xs : List ℕ) (at round bound : ℕ) : Type 0 where
   pub search : Searching m t rank xs at round
-  pub bounded : 2 * search.height + number_of (red_of search.part) + 1 ≤ bound
+  pub bounded : 2 * search.height + colour_value (red_of search.part) + 1 ≤ bound
 
-pub goes_left : (m : Words) (t : Tree) (rank : Rank) (xs : List ℕ) (at round : ℕ) (n : AtNode m t rank xs at round) → rank_cmp rank (rank_of m t.form at) ≡ Less → Goes m t rank xs (word_at m at 1) (round + 1) (2 * n.height + number_of n.red)
+pub goes_left : (m : Words) (t : Tree) (rank : Rank) (xs : List ℕ) (at round : ℕ) (n : AtNode m t rank xs at round) → rank_cmp rank (rank_of m t.form at) ≡ Less → Goes m t rank xs (word_at m at 1) (round + 1) (2 * n.height + colour_value n.red)
 goes_left m t rank xs at round n less =
     let b = child_balanced n.red n.left at n.right n.height n.balanced in
     let o = ordered_at m t.form (blocks_of n.left) at (blocks_of n.right) n.ordered in
@@ -187,7 +187,7 @@ goes_left m t rank xs at round n less =
       less_greater : Less ≡ Greater → ⊥
       less_greater e = cc
 
-pub goes_right : (m : Words) (t : Tree) (rank : Rank) (xs : List ℕ) (at round : ℕ) (n : AtNode m t rank xs at round) → rank_cmp rank (rank_of m t.form at) ≡ Greater → Goes m t rank xs (word_at m at 2) (round + 1) (2 * n.height + number_of n.red)
+pub goes_right : (m : Words) (t : Tree) (rank : Rank) (xs : List ℕ) (at round : ℕ) (n : AtNode m t rank xs at round) → rank_cmp rank (rank_of m t.form at) ≡ Greater → Goes m t rank xs (word_at m at 2) (round + 1) (2 * n.height + colour_value n.red)
 goes_right m t rank xs at round n greater =
     let b = child_balanced n.red n.left at n.right n.height n.balanced in
     let o = ordered_at m t.form (blocks_of n.left) at (blocks_of n.right) n.ordered in
@@ -227,7 +227,7 @@ unfolding search_start
 sought_start m t rank xs at start now unit h e paid =
     subst (λ (q : ℕ). Sought m t rank xs h.settled.height q 0 start now unit) (sym e) (record {
       search = search_start m t rank xs h;
-      paid = let black : number_of (red_of h.settled.tree) ≡ 0 = ap (λ q. number_of q) h.settled.black in
+      paid = let black : colour_value (red_of h.settled.tree) ≡ 0 = ap (λ q. colour_value q) h.settled.black in
           subst (λ (q : ℕ). now + (2 * h.settled.height + q) * unit ≤ start + 1 + 2 * h.settled.height * unit) (sym black) (omega (arith, paid));
     })
 
@@ -244,8 +244,8 @@ sought_left m t rank xs height at round start now unit next new s ne less e cost
     let go = goes_left m t rank xs at round n.0 less in
     subst (λ (q : ℕ). Sought m t rank xs height q (round + 1) start new unit) (sym e) (record {
       search = go.search;
-      paid = spent (2 * n.0.height + number_of n.0.red) (2 * s.search.height + number_of (red_of s.search.part)) _ unit now new start (2 * height * unit) go.bounded
-          (ap (λ (k : ℕ). 2 * k + number_of n.0.red) n.1 ∙ ap (λ (c : Bool). 2 * s.search.height + number_of c) n.2) s.paid cost;
+      paid = spent (2 * n.0.height + colour_value n.0.red) (2 * s.search.height + colour_value (red_of s.search.part)) _ unit now new start (2 * height * unit) go.bounded
+          (ap (λ (k : ℕ). 2 * k + colour_value n.0.red) n.1 ∙ ap (λ (c : Bool). 2 * s.search.height + colour_value c) n.2) s.paid cost;
     })
 
 pub sought_right : (m : Words) (t : Tree) (rank : Rank) (xs : List ℕ) (height at round start now unit next new : ℕ) → Sought m t rank xs height at round start now unit → at ≢ t.context.at + 24 →
@@ -255,8 +255,8 @@ sought_right m t rank xs height at round start now unit next new s ne greater e 
     let go = goes_right m t rank xs at round n.0 greater in
     subst (λ (q : ℕ). Sought m t rank xs height q (round + 1) start new unit) (sym e) (record {
       search = go.search;
-      paid = spent (2 * n.0.height + number_of n.0.red) (2 * s.search.height + number_of (red_of s.search.part)) _ unit now new start (2 * height * unit) go.bounded
-          (ap (λ (k : ℕ). 2 * k + number_of n.0.red) n.1 ∙ ap (λ (c : Bool). 2 * s.search.height + number_of c) n.2) s.paid cost;
+      paid = spent (2 * n.0.height + colour_value n.0.red) (2 * s.search.height + colour_value (red_of s.search.part)) _ unit now new start (2 * height * unit) go.bounded
+          (ap (λ (k : ℕ). 2 * k + colour_value n.0.red) n.1 ∙ ap (λ (c : Bool). 2 * s.search.height + colour_value c) n.2) s.paid cost;
     })
 
 -- what is still to pay covers one node more
@@ -266,8 +266,8 @@ sought_here m t rank xs height at round start now unit new s ne cost =
     let b = child_balanced n.0.red n.0.left at n.0.right n.0.height n.0.balanced in
     omega (
       arith,
-      spent (2 * n.0.height + number_of n.0.red) (2 * s.search.height + number_of (red_of s.search.part)) _ unit now new start (2 * height * unit) b.3
-          (ap (λ (k : ℕ). 2 * k + number_of n.0.red) n.1 ∙ ap (λ (c : Bool). 2 * s.search.height + number_of c) n.2) s.paid cost,
+      spent (2 * n.0.height + colour_value n.0.red) (2 * s.search.height + colour_value (red_of s.search.part)) _ unit now new start (2 * height * unit) b.3
+          (ap (λ (k : ℕ). 2 * k + colour_value n.0.red) n.1 ∙ ap (λ (c : Bool). 2 * s.search.height + colour_value c) n.2) s.paid cost,
     )
 
 pub sought_room : (m : Words) (t : Tree) (rank : Rank) (xs : List ℕ) (at round : ℕ) → IsDrawn m t xs → Searching m t rank xs at round → at ≢ t.context.at + 24 → HoldsKey m t.form at

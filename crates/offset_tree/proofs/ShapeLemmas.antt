@@ -3,8 +3,8 @@ use Rattle.std.proofs.Common.{ℕ, ◌≡◌, ◌≢◌, ◌+◌, Bool, ◌∷�
 use Rattle.std.proofs.lemmas.Grind.{common_steps}
 use Rattle.offset_tree.specs.declared.side.Side.{Side}
 use Rattle.offset_tree.specs.declared.side.Side.TheVariants.{Left, Right}
-use Rattle.offset_tree.specs.Sides.{other_of}
-use Rattle.offset_tree.specs.Shape.{Shape, branch, Path, top, step, plug, one, hits, hits_path, blocks_of}
+use Rattle.offset_tree.specs.Inside.Sides.{other_of}
+use Rattle.offset_tree.specs.Inside.Shape.{Shape, branch, Path, top, step, plug, one, hits, hits_path, blocks_of}
 
 pub one-same : (z x : ℕ) → z ≡ x → one z x ≡ 1
 unfolding one

@@ -4,9 +4,9 @@ use Rattle.std.proofs.lemmas.Bool.{cases_eq}
 use Rattle.zone_region.specs.Words.{Words, word_at, SetsWord}
 use Rattle.zone_region.proofs.WordLemmas.{word_at-set_same, word_at-set_index, length-set_word}
 use Rattle.offset_tree.specs.declared.side.Side.TheVariants.{Left}
-use Rattle.offset_tree.specs.Shape.{Shape, node, Path, plug, blocks_of, one, hits, hits_path}
-use Rattle.offset_tree.specs.Links.{Lies, LiesAround, IsShape, SetsParent, Replaces, with_colour, number_of}
-use Rattle.offset_tree.specs.Attaching.{IsFresh, Filled}
+use Rattle.offset_tree.specs.Inside.Shape.{Shape, node, Path, plug, blocks_of, one, hits, hits_path}
+use Rattle.offset_tree.specs.Inside.Links.{Lies, LiesAround, IsShape, SetsParent, Replaces, with_colour, colour_value}
+use Rattle.offset_tree.specs.Inside.Attaching.{IsFresh, Filled}
 use Rattle.offset_tree.proofs.ShapeLemmas.{one-same, one-other, hits-plug}
 use Rattle.offset_tree.proofs.LiesLemmas.{same_word, LiesAround-same, Lies-plug, Lies-reparent}
 use Rattle.offset_tree.proofs.Writes.{parent_length, replace_length, replace_other, hits_root, replaced}
@@ -117,7 +117,7 @@ substituted m0 m1 m2 m3 m4 context k c d a x b y u v p h f ue ve pe de fi su sv 
       lies = Lies-plug m4 nil (word_at m4 context 0) k (node c a y b) y p around (
         refl,
         at 3 ∙ fi.parent,
-        ap (λ q. q % 256) (at 4 ∙ fi.colour) ∙ (with_colour-low (word_at m0 y 4) d ∙ ap (λ (q : Bool). number_of q) de),
+        ap (λ q. q % 256) (at 4 ∙ fi.colour) ∙ (with_colour-low (word_at m0 y 4) d ∙ ap (λ (q : Bool). colour_value q) de),
         subst (λ (q : ℕ). Lies m4 nil a q y) (sym (at 1 ∙ fi.left)) a_new,
         subst (λ (q : ℕ). Lies m4 nil b q y) (sym (at 2 ∙ fi.right)) b_new,
       );

@@ -2,7 +2,7 @@
 use Rattle.std.proofs.Common.{ℕ, ◌≡◌, ◌+◌, ◌≤◌, List, [], ◌∷◌, ◌++◌, subst, refl, arith, inl, inr}
 use Rattle.std.proofs.lemmas.Bool.{cases_eq}
 use Rattle.zone_region.specs.Members.{In, IsDistinct}
-use Rattle.offset_tree.specs.Shape.{Shape, leaf, node, one, hits, blocks_of}
+use Rattle.offset_tree.specs.Inside.Shape.{Shape, leaf, node, one, hits, blocks_of}
 use Rattle.offset_tree.proofs.ShapeLemmas.{one-same, one-other}
 
 -- how often a block stands in a list

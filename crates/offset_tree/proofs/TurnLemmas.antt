@@ -3,10 +3,10 @@ use Rattle.std.proofs.Common.{ℕ, ◌≡◌, ◌≢◌, ◌⊎◌, ◌+◌, ◌
 use Rattle.std.proofs.lemmas.Bool.{cases_eq}
 use Rattle.zone_region.specs.Words.{Words, word_at}
 use Rattle.offset_tree.specs.declared.side.Side.{Side}
-use Rattle.offset_tree.specs.Sides.{index_of, other_of}
-use Rattle.offset_tree.specs.Shape.{Shape, branch, Path, top, step, plug, one, hits, hits_path, before_turn, after_turn}
-use Rattle.offset_tree.specs.Links.{IsColoured, Lies, LiesAround, IsShape, SetsTwo, SetsParent, Replaces}
-use Rattle.offset_tree.specs.Moves.{ChangesTree}
+use Rattle.offset_tree.specs.Inside.Sides.{child_word, other_of}
+use Rattle.offset_tree.specs.Inside.Shape.{Shape, branch, Path, top, step, plug, one, hits, hits_path, before_turn, after_turn}
+use Rattle.offset_tree.specs.Inside.Links.{IsColoured, Lies, LiesAround, IsShape, SetsTwo, SetsParent, Replaces}
+use Rattle.offset_tree.specs.Inside.Moves.{ChangesTree}
 use Rattle.offset_tree.proofs.Frames.{tree_changed_twice, changes_two, changes_parent, changes_slot}
 use Rattle.offset_tree.proofs.ShapeLemmas.{one-same, hits-branch, hits-plug}
 use Rattle.offset_tree.proofs.LiesLemmas.{same_word, Lies-same, LiesAround-same, IsBranch, branch_of, Lies-branch, Lies-plug, placed, Lies-reparent}
@@ -14,11 +14,11 @@ use Rattle.offset_tree.proofs.Writes.{index-sum, index-low, index-other, two_fir
 
 -- the writes of a turn at `x` towards side `s`
 pub record TurnWrites (l : Words) (context : ℕ) (s : Side) (x y inner p : ℕ) (m1 m2 m3 m4 : Words) : Type 0 where
-  pub y_is : y ≡ word_at l x (index_of (other_of s))
-  pub inner_is : inner ≡ word_at l y (index_of s)
+  pub y_is : y ≡ word_at l x (child_word (other_of s))
+  pub inner_is : inner ≡ word_at l y (child_word s)
   pub p_is : p ≡ word_at l x 3
-  pub down : SetsTwo l m1 x (index_of (other_of s)) inner 3 y
-  pub up : SetsTwo m1 m2 y (index_of s) x 3 p
+  pub down : SetsTwo l m1 x (child_word (other_of s)) inner 3 y
+  pub up : SetsTwo m1 m2 y (child_word s) x 3 p
   pub between : SetsParent m2 m3 (context + 24) inner x
   pub above : Replaces m3 m4 context p x y
 
@@ -39,10 +39,10 @@ record Parts (l : Words) (context : ℕ) (k : Path) (s : Side) (c d : Bool) (a :
   parent : word_at l x 3 ≡ p
   x_colour : IsColoured l x c
   y_colour : IsColoured l y d
-  y_at : word_at l x (index_of (other_of s)) ≡ y
-  a_lies : Lies l (context + 24) a (word_at l x (index_of s)) x
-  b_lies : Lies l (context + 24) b (word_at l y (index_of s)) y
-  e_lies : Lies l (context + 24) e (word_at l y (index_of (other_of s))) y
+  y_at : word_at l x (child_word (other_of s)) ≡ y
+  a_lies : Lies l (context + 24) a (word_at l x (child_word s)) x
+  b_lies : Lies l (context + 24) b (word_at l y (child_word s)) y
+  e_lies : Lies l (context + 24) e (word_at l y (child_word (other_of s))) y
   tidy : (z : ℕ) → hits z a + (one z x + (hits z b + (one z y + hits z e))) + hits_path z k ≤ 1
   live : (z : ℕ) → 0 < hits z a + (one z x + (hits z b + (one z y + hits z e))) + hits_path z k → (z ≢ context) × (z ≢ context + 24) × (z ≢ 0) × (5 ≤ length (l z))
 
@@ -53,7 +53,7 @@ parts l context k s c d a x b y e h =
     let root = word_at l context 0 in
     let u = placed l nil root k (before_turn s c d a x b y e) h.lies in
     let bx = branch_of l nil s c a x (branch s d b y e) u.0 u.1 u.2.lies in
-    let by = branch_of l nil s d b y e (word_at l x (index_of (other_of s))) x bx.on_other in
+    let by = branch_of l nil s d b y e (word_at l x (child_word (other_of s))) x bx.on_other in
     let count = λ (z : ℕ). let q : hits z (plug k (before_turn s c d a x b y e)) ≡ hits z a + (one z x + (hits z b + (one z y + hits z e))) + hits_path z k = omega (arith, hits-plug z k (before_turn s c d a x b y e), (hits-turn z s c d a x b y e).0) in q in (
       u.1,
       record {
@@ -84,12 +84,12 @@ around_parent m nil root (step s c x far up) o p h = inr (omega (arith, one-same
 
 -- the words after a turn
 record Turned (l n : Words) (context : ℕ) (k : Path) (s : Side) (a : Shape) (x : ℕ) (b : Shape) (y : ℕ) (e : Shape) (inner p : ℕ) : Type 0 where
-  x_side : word_at n x (index_of s) ≡ word_at l x (index_of s)
-  x_other : word_at n x (index_of (other_of s)) ≡ inner
+  x_side : word_at n x (child_word s) ≡ word_at l x (child_word s)
+  x_other : word_at n x (child_word (other_of s)) ≡ inner
   x_parent : word_at n x 3 ≡ y
   x_flags : word_at n x 4 ≡ word_at l x 4
-  y_side : word_at n y (index_of s) ≡ x
-  y_other : word_at n y (index_of (other_of s)) ≡ word_at l y (index_of (other_of s))
+  y_side : word_at n y (child_word s) ≡ x
+  y_other : word_at n y (child_word (other_of s)) ≡ word_at l y (child_word (other_of s))
   y_parent : word_at n y 3 ≡ p
   y_flags : word_at n y 4 ≡ word_at l y 4
   same : (z : ℕ) → 0 < hits z a + (hits z b + hits z e) → (z ≢ inner) ⊎ (inner ≡ context + 24) → n z ≡ l z
@@ -133,7 +133,7 @@ turned_words l context k s c d a x b y e inner p m1 m2 m3 m4 h w =
     let at_y = λ (j : ℕ). ap (λ (ws : List ℕ). get_or ws j 0) m4y in
     let at_x = λ (j : ℕ). ap (λ (ws : List ℕ). get_or ws j 0) m4x in
     let at_1y = λ (j : ℕ). ap (λ (ws : List ℕ). get_or ws j 0) m1y in
-    let length3 = λ (z : ℕ). parent_length m2 m3 nil inner x z w.between ∙ (two_length m1 m2 y (index_of s) x 3 p z w.up ∙ two_length l m1 x (index_of (other_of s)) inner 3 y z w.down) in
+    let length3 = λ (z : ℕ). parent_length m2 m3 nil inner x z w.between ∙ (two_length m1 m2 y (child_word s) x 3 p z w.up ∙ two_length l m1 x (child_word (other_of s)) inner 3 y z w.down) in
     let on_path = λ (z : ℕ) (i : 0 < hits_path z k). (turn_other l context s x y inner p m1 m2 m3 m4 w z (λ q. omega (arith, i, P.tidy z, one-same z x q)) (λ q. omega (arith, i, P.tidy z, one-same z y q)) (apart_inner z (omega (arith, i, P.tidy z)))).0 in
     let inner_context : (context ≢ inner) ⊎ (inner ≡ nil) = elim (cases_eq inner nil) [
       | inl n ↦ inr n
@@ -142,14 +142,14 @@ turned_words l context k s c d a x b y e inner p m1 m2 m3 m4 h w =
     let context3 : m3 context ≡ l context = (turn_other l context s x y inner p m1 m2 m3 m4 w context (λ q. live_x.0 (sym q)) (λ q. live_y.0 (sym q)) inner_context).0 in
     let around3 = subst (λ (q : ℕ). LiesAround m3 nil q k x p) (sym (same_word l m3 context 0 context3)) (LiesAround-same l m3 nil (word_at l context 0) k x p on_path around) in
     record {
-      x_side = at_x (index_of s) ∙ two_other l m1 x (index_of (other_of s)) inner 3 y (index_of s) w.down (λ q. omega (arith, q, sides)) (λ q. omega (arith, q, sides, low'));
-      x_other = at_x (index_of (other_of s)) ∙ two_first l m1 x (index_of (other_of s)) inner 3 y w.down (λ q. omega (arith, q, sides, low)) (omega (arith, sides, low, live_x.3));
-      x_parent = at_x 3 ∙ two_second l m1 x (index_of (other_of s)) inner 3 y w.down (omega (arith, live_x.3));
-      x_flags = at_x 4 ∙ two_other l m1 x (index_of (other_of s)) inner 3 y 4 w.down (λ q. omega (arith, q, sides, low)) (λ q. omega (arith, q));
-      y_side = at_y (index_of s) ∙ two_first m1 m2 y (index_of s) x 3 p w.up (λ q. omega (arith, q, sides, low')) (omega (arith, sides, low', room1y));
-      y_other = at_y (index_of (other_of s)) ∙ (two_other m1 m2 y (index_of s) x 3 p (index_of (other_of s)) w.up (λ q. omega (arith, q, sides)) (λ q. omega (arith, q, sides, low)) ∙ at_1y (index_of (other_of s)));
-      y_parent = at_y 3 ∙ two_second m1 m2 y (index_of s) x 3 p w.up (omega (arith, room1y));
-      y_flags = at_y 4 ∙ (two_other m1 m2 y (index_of s) x 3 p 4 w.up (λ q. omega (arith, q, sides, low')) (λ q. omega (arith, q)) ∙ at_1y 4);
+      x_side = at_x (child_word s) ∙ two_other l m1 x (child_word (other_of s)) inner 3 y (child_word s) w.down (λ q. omega (arith, q, sides)) (λ q. omega (arith, q, sides, low'));
+      x_other = at_x (child_word (other_of s)) ∙ two_first l m1 x (child_word (other_of s)) inner 3 y w.down (λ q. omega (arith, q, sides, low)) (omega (arith, sides, low, live_x.3));
+      x_parent = at_x 3 ∙ two_second l m1 x (child_word (other_of s)) inner 3 y w.down (omega (arith, live_x.3));
+      x_flags = at_x 4 ∙ two_other l m1 x (child_word (other_of s)) inner 3 y 4 w.down (λ q. omega (arith, q, sides, low)) (λ q. omega (arith, q));
+      y_side = at_y (child_word s) ∙ two_first m1 m2 y (child_word s) x 3 p w.up (λ q. omega (arith, q, sides, low')) (omega (arith, sides, low', room1y));
+      y_other = at_y (child_word (other_of s)) ∙ (two_other m1 m2 y (child_word s) x 3 p (child_word (other_of s)) w.up (λ q. omega (arith, q, sides)) (λ q. omega (arith, q, sides, low)) ∙ at_1y (child_word (other_of s)));
+      y_parent = at_y 3 ∙ two_second m1 m2 y (child_word s) x 3 p w.up (omega (arith, room1y));
+      y_flags = at_y 4 ∙ (two_other m1 m2 y (child_word s) x 3 p 4 w.up (λ q. omega (arith, q, sides, low')) (λ q. omega (arith, q)) ∙ at_1y 4);
       same = same;
       inner_words = λ i.
           let live_i = P.live inner (omega (arith, i)) in
@@ -175,8 +175,8 @@ turned l context k s c d a x b y e inner p m1 m2 m3 m4 h w =
       | inl n ↦ inr n
       | inr ne ↦ inl (λ q. let j = hits_root l nil b inner y b_at ne in let j' : 0 < hits z b = subst (λ (r : ℕ). 0 < hits r b) (sym q) j in omega (arith, none_b, j'))
     ] in
-    let a_new = Lies-same l m4 nil a (word_at l x (index_of s)) x (λ z i. t.same z (omega (arith, i)) (none z (omega (arith, i)))) P.a_lies in
-    let e_new = Lies-same l m4 nil e (word_at l y (index_of (other_of s))) y (λ z i. t.same z (omega (arith, i)) (none z (omega (arith, i)))) P.e_lies in
+    let a_new = Lies-same l m4 nil a (word_at l x (child_word s)) x (λ z i. t.same z (omega (arith, i)) (none z (omega (arith, i)))) P.a_lies in
+    let e_new = Lies-same l m4 nil e (word_at l y (child_word (other_of s))) y (λ z i. t.same z (omega (arith, i)) (none z (omega (arith, i)))) P.e_lies in
     let b_new = Lies-reparent l m4 nil b inner y x (λ z. omega (arith, P.tidy z)) (λ z i ne. t.same z (omega (arith, i)) (inl ne)) t.inner_words b_at in
     let below : IsBranch m4 nil s c a x b x y = record {
       at = refl;
@@ -234,14 +234,14 @@ turned_changes l context k s c d a x b y e inner p m1 m2 m3 m4 h w =
     tree_changed_twice l m3 m4 context t
     (tree_changed_twice l m2 m3 context t
     (tree_changed_twice l m1 m2 context t
-    (changes_two l m1 context t x (index_of (other_of s)) inner y (h.apart x x_there).0 x_there low' (omega (arith, sides, low)) w.down)
-    (changes_two m1 m2 context t y (index_of s) x p (h.apart y y_there).0 y_there low (omega (arith, sides, low')) w.up))
+    (changes_two l m1 context t x (child_word (other_of s)) inner y (h.apart x x_there).0 x_there low' (omega (arith, sides, low)) w.down)
+    (changes_two m1 m2 context t y (child_word s) x p (h.apart y y_there).0 y_there low (omega (arith, sides, low')) w.up))
     (changes_parent m2 m3 context t inner x inner_away inner_there w.between))
     (changes_slot m3 m4 context t p x y p_there w.above)
 
 -- the child that the code reads is that of the drawing
 pub child_read : (l : Words) (context : ℕ) (k : Path) (s : Side) (c d : Bool) (a : Shape) (x : ℕ) (b : Shape) (y : ℕ) (e : Shape) →
-    IsShape l context (plug k (before_turn s c d a x b y e)) → word_at l x (index_of (other_of s)) ≡ y
+    IsShape l context (plug k (before_turn s c d a x b y e)) → word_at l x (child_word (other_of s)) ≡ y
 child_read l context k s c d a x b y e h = (parts l context k s c d a x b y e h).1.y_at
 
 pub writes_at : (l : Words) (context : ℕ) (s : Side) (x y z inner p : ℕ) (m1 m2 m3 m4 : Words) → y ≡ z → TurnWrites l context s x y inner p m1 m2 m3 m4 → TurnWrites l context s x z inner p m1 m2 m3 m4
@@ -251,8 +251,8 @@ writes_at l context s x y z inner p m1 m2 m3 m4 e w = subst (λ (q : ℕ). TurnW
 pub record TurnRooms (l : Words) (context x : ℕ) (s : Side) : Type 0 where
   pub head : 8 ≤ length (l context)
   pub at : 5 ≤ length (l x)
-  pub child : 5 ≤ length (l (word_at l x (index_of (other_of s))))
-  pub inner : word_at l (word_at l x (index_of (other_of s))) (index_of s) ≢ context + 24 → 5 ≤ length (l (word_at l (word_at l x (index_of (other_of s))) (index_of s)))
+  pub child : 5 ≤ length (l (word_at l x (child_word (other_of s))))
+  pub inner : word_at l (word_at l x (child_word (other_of s))) (child_word s) ≢ context + 24 → 5 ≤ length (l (word_at l (word_at l x (child_word (other_of s))) (child_word s)))
   pub parent : word_at l x 3 ≢ 0 → 5 ≤ length (l (word_at l x 3))
 
 pub turn_rooms : (l : Words) (context : ℕ) (k : Path) (s : Side) (c d : Bool) (a : Shape) (x : ℕ) (b : Shape) (y : ℕ) (e : Shape) →
@@ -262,36 +262,36 @@ turn_rooms l context k s c d a x b y e h =
     let P = (parts l context k s c d a x b y e h).1 in
     let p = (parts l context k s c d a x b y e h).0 in
     let child : 5 ≤ length (l y) = (P.live y (omega (arith, one-same y y refl))).3 in
-    let inner = λ (ne : word_at l y (index_of s) ≢ nil). (P.live (word_at l y (index_of s)) (let j = hits_root l nil b (word_at l y (index_of s)) y P.b_lies ne in omega (arith, j))).3 in
+    let inner = λ (ne : word_at l y (child_word s) ≢ nil). (P.live (word_at l y (child_word s)) (let j = hits_root l nil b (word_at l y (child_word s)) y P.b_lies ne in omega (arith, j))).3 in
     let parent = λ (ne : p ≢ 0). elim (around_parent l nil (word_at l context 0) k x p P.around) as (λ _. 5 ≤ length (l p)) [ inl n ↦ absurd (ne n) | inr j ↦ (P.live p (omega (arith, j))).3 ] in
     record {
       head = h.head;
       at = (P.live x (omega (arith, one-same x x refl))).3;
       child = subst (λ (q : ℕ). 5 ≤ length (l q)) (sym P.y_at) child;
-      inner = subst (λ (q : ℕ). word_at l q (index_of s) ≢ nil → 5 ≤ length (l (word_at l q (index_of s)))) (sym P.y_at) inner;
+      inner = subst (λ (q : ℕ). word_at l q (child_word s) ≢ nil → 5 ≤ length (l (word_at l q (child_word s)))) (sym P.y_at) inner;
       parent = subst (λ (q : ℕ). q ≢ 0 → 5 ≤ length (l q)) (sym P.parent) parent;
     }
 
 pub turn_writes : (l : Words) (context : ℕ) (s far : Side) (x y inner p : ℕ) (m1 m2 m3 m4 : Words) → far ≡ other_of s →
-    y ≡ word_at l x (index_of far) → inner ≡ word_at l y (index_of s) → p ≡ word_at l x 3 →
-    SetsTwo l m1 x (index_of far) inner 3 y → SetsTwo m1 m2 y (index_of s) x 3 p → SetsParent m2 m3 (context + 24) inner x → Replaces m3 m4 context p x y →
+    y ≡ word_at l x (child_word far) → inner ≡ word_at l y (child_word s) → p ≡ word_at l x 3 →
+    SetsTwo l m1 x (child_word far) inner 3 y → SetsTwo m1 m2 y (child_word s) x 3 p → SetsParent m2 m3 (context + 24) inner x → Replaces m3 m4 context p x y →
     TurnWrites l context s x y inner p m1 m2 m3 m4
 turn_writes l context s far x y inner p m1 m2 m3 m4 e ye ie pe d u b a = record {
-  y_is = ye ∙ ap (λ (f : Side). word_at l x (index_of f)) e;
+  y_is = ye ∙ ap (λ (f : Side). word_at l x (child_word f)) e;
   inner_is = ie;
   p_is = pe;
-  down = subst (λ (f : Side). SetsTwo l m1 x (index_of f) inner 3 y) e d;
+  down = subst (λ (f : Side). SetsTwo l m1 x (child_word f) inner 3 y) e d;
   up = u;
   between = b;
   above = a;
 }
 
 -- the same rooms, by what the code has read
-pub turn_rooms_read : (l : Words) (context x y inner p : ℕ) (s far : Side) → far ≡ other_of s → y ≡ word_at l x (index_of far) → inner ≡ word_at l y (index_of s) → p ≡ word_at l x 3 →
+pub turn_rooms_read : (l : Words) (context x y inner p : ℕ) (s far : Side) → far ≡ other_of s → y ≡ word_at l x (child_word far) → inner ≡ word_at l y (child_word s) → p ≡ word_at l x 3 →
     TurnRooms l context x s → (5 ≤ length (l x)) × (5 ≤ length (l y)) × (inner ≢ context + 24 → 5 ≤ length (l inner)) × (p ≢ 0 → 5 ≤ length (l p))
 turn_rooms_read l context x y inner p s far e ye ie pe r =
-    let yo : y ≡ word_at l x (index_of (other_of s)) = ye ∙ ap (λ (f : Side). word_at l x (index_of f)) e in
-    let io : inner ≡ word_at l (word_at l x (index_of (other_of s))) (index_of s) = ie ∙ ap (λ (q : ℕ). word_at l q (index_of s)) yo in (
+    let yo : y ≡ word_at l x (child_word (other_of s)) = ye ∙ ap (λ (f : Side). word_at l x (child_word f)) e in
+    let io : inner ≡ word_at l (word_at l x (child_word (other_of s))) (child_word s) = ie ∙ ap (λ (q : ℕ). word_at l q (child_word s)) yo in (
       r.at,
       subst (λ (q : ℕ). 5 ≤ length (l q)) (sym yo) r.child,
       subst (λ (q : ℕ). q ≢ context + 24 → 5 ≤ length (l q)) (sym io) r.inner,

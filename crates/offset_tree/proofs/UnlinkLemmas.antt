@@ -4,11 +4,11 @@ use Rattle.std.proofs.lemmas.Bool.{cases_eq}
 use Rattle.zone_region.specs.Words.{Words, word_at}
 use Rattle.offset_tree.specs.declared.side.Side.{Side}
 use Rattle.offset_tree.specs.declared.side.Side.TheVariants.{Left, Right}
-use Rattle.offset_tree.specs.Sides.{index_of, other_of}
-use Rattle.offset_tree.specs.Shape.{Shape, leaf, branch, Path, top, step, plug, one, hits, hits_path, blocks_of}
-use Rattle.offset_tree.specs.Links.{Lies, LiesAround, IsShape, SetsParent, Replaces, side_at, red_at}
-use Rattle.offset_tree.specs.Balance.{red_of, IsBalanced, IsPathBalanced, depth_of, Settled}
-use Rattle.offset_tree.specs.Mending.{IsHole, Lacking, OneSided}
+use Rattle.offset_tree.specs.Inside.Sides.{child_word, other_of}
+use Rattle.offset_tree.specs.Inside.Shape.{Shape, leaf, branch, Path, top, step, plug, one, hits, hits_path, blocks_of, IsHole}
+use Rattle.offset_tree.specs.Inside.Links.{Lies, LiesAround, IsShape, SetsParent, Replaces, side_at, red_at}
+use Rattle.offset_tree.specs.Inside.Balance.{red_of, IsBalanced, IsPathBalanced, depth_of, Settled}
+use Rattle.offset_tree.specs.Inside.DeleteFixup.{Lacking, OneSided}
 use Rattle.offset_tree.specs.Changes.{ChangesNodes}
 use Rattle.offset_tree.proofs.Frames.{nodes_changed, tree_changed_twice, changes_parent, changes_slot}
 use Rattle.offset_tree.proofs.ShapeLemmas.{one-same, hits-branch, hits-plug}
@@ -17,10 +17,10 @@ use Rattle.offset_tree.proofs.Writes.{parent_length, replace_length, replace_oth
 use Rattle.offset_tree.proofs.Paints.{around_of, red_at-number}
 use Rattle.offset_tree.proofs.TurnLemmas.{around_parent}
 use Rattle.offset_tree.proofs.BalanceLemmas.{plug_balanced, placed_balanced}
-use Rattle.offset_tree.proofs.RepairLemmas.{hits_here, read_child}
+use Rattle.offset_tree.proofs.NodeLemmas.{hits_here, read_child}
 
 pub unlinked : (l m n : Words) (context : ℕ) (k : Path) (s : Side) (c : Bool) (y : ℕ) (b : Shape) (v p : ℕ) → IsShape l context (plug k (branch s c leaf y b)) →
-    v ≡ word_at l y (index_of (other_of s)) → p ≡ word_at l y 3 → SetsParent l m (context + 24) v p → Replaces m n context p y v → IsShape n context (plug k b) × Lies n (context + 24) b v p
+    v ≡ word_at l y (child_word (other_of s)) → p ≡ word_at l y 3 → SetsParent l m (context + 24) v p → Replaces m n context p y v → IsShape n context (plug k b) × Lies n (context + 24) b v p
 unlinked l m n context k s c y b v p h ve pe sp re =
     let nil = context + 24 in
     let u = around_of l context k s c leaf y b h in
@@ -115,7 +115,7 @@ after_unlink l n context k s c y b v p side xs g balanced black hole shape lies 
 pub record SidedReads (m : Words) (context y : ℕ) (side : Side) (xs : List ℕ) (o : OneSided m context y side xs) : Type 0 where
   pub room : 5 ≤ length (m y)
   pub parent_room : word_at m y 3 ≢ 0 → 5 ≤ length (m (word_at m y 3))
-  pub rest_room : word_at m y (index_of (other_of side)) ≢ context + 24 → 5 ≤ length (m (word_at m y (index_of (other_of side))))
+  pub rest_room : word_at m y (child_word (other_of side)) ≢ context + 24 → 5 ≤ length (m (word_at m y (child_word (other_of side))))
   pub colour : red_at m (context + 24) y ≡ o.red
 
 pub sided_reads : (m : Words) (context y : ℕ) (side : Side) (xs : List ℕ) (o : OneSided m context y side xs) → SidedReads m context y side xs o
@@ -128,18 +128,18 @@ sided_reads m context y side xs o =
         | inl z ↦ absurd (ne (u.1.is.parent ∙ z))
         | inr i ↦ subst (λ (q : ℕ). 5 ≤ length (m q)) (sym u.1.is.parent) (u.1.live u.0 (omega (arith, i))).3
       ];
-      rest_room = λ ne. (u.1.live (word_at m y (index_of (other_of side))) (let i = hits_root m (context + 24) o.rest (word_at m y (index_of (other_of side))) y u.1.is.on_other ne in omega (arith, i))).3;
+      rest_room = λ ne. (u.1.live (word_at m y (child_word (other_of side))) (let i = hits_root m (context + 24) o.rest (word_at m y (child_word (other_of side))) y u.1.is.on_other ne in omega (arith, i))).3;
       colour = red_at-number m (context + 24) y o.red live.1 u.1.is.colour;
     }
 
 pub read_room : (m : Words) (q x : ℕ) (e : ℕ) → q ≡ x → (x ≢ e → 5 ≤ length (m x)) → q ≢ e → 5 ≤ length (m q)
 read_room m q x e same room ne = subst (λ (z : ℕ). 5 ≤ length (m z)) (sym same) (room (λ z. ne (same ∙ z)))
 
-pub taken_out : (l m n : Words) (context y : ℕ) (side far hole : Side) (xs : List ℕ) (v p : ℕ) (o : OneSided l context y side xs) → far ≡ other_of side → v ≡ word_at l y (index_of far) → p ≡ word_at l y 3 → (p ≢ 0 → hole ≡ side_at l p y) →
+pub taken_out : (l m n : Words) (context y : ℕ) (side far hole : Side) (xs : List ℕ) (v p : ℕ) (o : OneSided l context y side xs) → far ≡ other_of side → v ≡ word_at l y (child_word far) → p ≡ word_at l y 3 → (p ≢ 0 → hole ≡ side_at l p y) →
     SetsParent l m (context + 24) v p → Replaces m n context p y v → (o.red ≡ true → Settled n context xs) × (o.red ≡ false → Lacking n context v p hole xs (depth_of o.path)) × ChangesNodes l n context xs
 taken_out l m n context y side far hole xs v p o e ve pe he sp re =
     let nil = context + 24 in
-    let at = ve ∙ ap (λ (s : Side). word_at l y (index_of s)) e in
+    let at = ve ∙ ap (λ (s : Side). word_at l y (child_word s)) e in
     let u = unlinked l m n context o.path side o.red y o.rest v p o.shape at pe sp re in
     let w = after_unlink l n context o.path side o.red y o.rest v p hole xs o.height o.balanced o.black (hole_left l context o.path side o.red leaf y o.rest p hole o.shape pe he) u.0 u.1 o.blocks in
     let a = around_of l context o.path side o.red leaf y o.rest o.shape in

@@ -6,21 +6,21 @@ use Rattle.zone_region.specs.Words.{Words, word_at, SetsWord}
 use Rattle.zone_region.proofs.WordLemmas.{word_at-set_same, word_at-set_block, word_at-set_index, length-set_word}
 use Rattle.offset_tree.specs.declared.side.Side.{Side}
 use Rattle.offset_tree.specs.declared.side.Side.TheVariants.{Left, Right}
-use Rattle.offset_tree.specs.Sides.{index_of, other_of}
-use Rattle.offset_tree.specs.Shape.{Shape, leaf, node, Path, top, step, hits, hits_path}
-use Rattle.offset_tree.specs.Links.{Lies, LiesAround, SetsTwo, SetsParent, Replaces}
+use Rattle.offset_tree.specs.Inside.Sides.{child_word, other_of}
+use Rattle.offset_tree.specs.Inside.Shape.{Shape, leaf, node, Path, top, step, hits, hits_path}
+use Rattle.offset_tree.specs.Inside.Links.{Lies, LiesAround, SetsTwo, SetsParent, Replaces}
 use Rattle.offset_tree.proofs.ShapeLemmas.{one-same}
 use Rattle.offset_tree.proofs.LiesLemmas.{Lies-same, LiesAround-same}
 
-pub index-sum : (s : Side) → index_of s + index_of (other_of s) ≡ 3
+pub index-sum : (s : Side) → child_word s + child_word (other_of s) ≡ 3
 index-sum Left = refl
 index-sum Right = refl
 
-pub index-low : (s : Side) → 1 ≤ index_of s
+pub index-low : (s : Side) → 1 ≤ child_word s
 index-low Left = omega arith
 index-low Right = omega arith
 
-pub index-other : (s : Side) → 1 ≤ index_of (other_of s)
+pub index-other : (s : Side) → 1 ≤ child_word (other_of s)
 index-other Left = omega arith
 index-other Right = omega arith
 
@@ -72,22 +72,18 @@ pub hits_root : (m : Words) (nil : ℕ) (t : Shape) (o p : ℕ) → Lies m nil t
 hits_root m nil leaf o p h ne = absurd (ne h)
 hits_root m nil (node c l x r) o p h ne = omega (arith, one-same o x h.0)
 
-pub no_root : (m : Words) (nil : ℕ) (t : Shape) (o p : ℕ) → Lies m nil t o p → hits o t ≡ 0 → o ≡ nil
-no_root m nil leaf o p h none = h
-no_root m nil (node c l x r) o p h none = absurd (omega (arith, none, one-same o x h.0))
-
 pub replaced_step : (m n : Words) (nil context : ℕ) (s : Side) (c : Bool) (x : ℕ) (far : Shape) (up : Path) (o v : ℕ) →
     ((z : ℕ) → hits_path z (step s c x far up) ≤ 1) → x ≢ context → 5 ≤ length (m x) →
-    SetsWord m n x (index_of s) v → LiesAround m nil (word_at m context 0) (step s c x far up) o x → LiesAround n nil (word_at n context 0) (step s c x far up) v x
+    SetsWord m n x (child_word s) v → LiesAround m nil (word_at m context 0) (step s c x far up) o x → LiesAround n nil (word_at n context 0) (step s c x far up) v x
 replaced_step m n nil context s c x far up o v tidy nc room w h =
-    let same = λ (j : ℕ) (ne : j ≢ index_of s). word_at-set_index m n x (index_of s) v x j w ne in
+    let same = λ (j : ℕ) (ne : j ≢ child_word s). word_at-set_index m n x (child_word s) v x j w ne in
     let others = λ (z : ℕ) (i : 0 < hits z far + hits_path z up). w.others z (λ e. omega (arith, i, tidy z, one-same z x e)) in
-    let far_at = same (index_of (other_of s)) (λ e. omega (arith, e, index-sum s)) in
-    let root : word_at n context 0 ≡ word_at m context 0 = word_at-set_block m n x (index_of s) v context 0 w (λ e. nc (sym e)) in (
+    let far_at = same (child_word (other_of s)) (λ e. omega (arith, e, index-sum s)) in
+    let root : word_at n context 0 ≡ word_at m context 0 = word_at-set_block m n x (child_word s) v context 0 w (λ e. nc (sym e)) in (
       refl,
-      word_at-set_same m n x (index_of s) v w (omega (arith, room, index-sum s, index-low s)),
+      word_at-set_same m n x (child_word s) v w (omega (arith, room, index-sum s, index-low s)),
       ap (λ q. q % 256) (same 4 (λ e. omega (arith, e, index-sum s))) ∙ h.2,
-      subst (λ (q : ℕ). Lies n nil far q x) (sym far_at) (Lies-same m n nil far (word_at m x (index_of (other_of s))) x (λ z i. others z (omega (arith, i))) h.3),
+      subst (λ (q : ℕ). Lies n nil far q x) (sym far_at) (Lies-same m n nil far (word_at m x (child_word (other_of s))) x (λ z i. others z (omega (arith, i))) h.3),
       subst (λ (q : ℕ). LiesAround n nil (word_at n context 0) up x q) (sym (same 3 (λ e. omega (arith, e, index-sum s, index-other s))))
           (subst (λ (q : ℕ). LiesAround n nil q up x (word_at m x 3)) (sym root) (LiesAround-same m n nil (word_at m context 0) up x (word_at m x 3) (λ z i. others z (omega (arith, i))) h.4)),
     )

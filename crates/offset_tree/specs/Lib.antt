@@ -5,13 +5,5 @@ pub mod Keys
 pub mod Changes
 pub mod Layout
 pub mod Bounds
-pub mod Sides
-pub mod Shape
-pub mod Links
-pub mod Moves
-pub mod Balance
-pub mod Trees
-pub mod Mending
-pub mod Attaching
-pub mod Inserting
-pub mod Removing
+pub mod Laws
+pub mod Inside

@@ -1,15 +1,14 @@
 ghost use Rattle.std.specs.Prelude.{◌≡◌, ◌≢◌, ◌+◌, ◌^◌, ◌≤◌, true, length};
-ghost use Rattle.offset_tree.specs.Shape.{Path, plug, node, leaf};
-ghost use Rattle.offset_tree.specs.Links.{IsShape};
-ghost use Rattle.offset_tree.specs.Moves.{ChangesTree};
-ghost use Rattle.offset_tree.specs.Attaching.{Gap, Cleared, Linked};
+ghost use Rattle.offset_tree.specs.Inside.Shape.{Path, plug, node, leaf};
+ghost use Rattle.offset_tree.specs.Inside.Links.{IsShape};
+ghost use Rattle.offset_tree.specs.Inside.Moves.{ChangesTree};
+ghost use Rattle.offset_tree.specs.Inside.Attaching.{Gap, Cleared, Linked};
 
 use crate::links::{PARENT, index, paint, sentinel};
 use crate::side::Side;
 use crate::tree::Tree;
 use std::sync::ledger::Ledger;
-use zone_region::blocks::{Block, Blocks};
-use zone_region::steps::Steps;
+use zone_region::{Block, Blocks, Steps};
 
 /// Makes `b` a red block without children, under `p`.
 fn clear<B: Blocks, L: Ledger>(blocks: &mut B, t: &Tree, b: u64, p: u64, steps: &mut Steps<L>)

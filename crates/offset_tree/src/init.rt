@@ -4,7 +4,7 @@ ghost use Rattle.offset_tree.specs.Changes.{MakesEmpty};
 
 use crate::links::sentinel;
 use crate::tree::Tree;
-use zone_region::blocks::Blocks;
+use zone_region::Blocks;
 
 /// Sets the root and the sentinel's offset to the sentinel, and clears the sentinel's five words.
 fn write_context<B: Blocks>(blocks: &mut B, t: &Tree)
@@ -22,12 +22,14 @@ fn write_context<B: Blocks>(blocks: &mut B, t: &Tree)
     blocks.set(t.context, 7, 0);
 }
 
-/// Makes the tree empty (`ngx_rbtree_init`): the root is the sentinel, whose five words are 0.
-pub fn init<B: Blocks>(blocks: &mut B, t: &Tree)
-    requires { IsContext (B.words blocks.old) t.now }
-    ensures lays { IsTree (B.words blocks.new) t.now [] }
-    ensures changes { MakesEmpty (B.words blocks.old) (B.words blocks.new) t.now.context.at }
-    ensures rest { B.rest blocks.new ≡ B.rest blocks.old }
-{
-    write_context(blocks, t);
+impl Tree {
+    /// Makes the tree empty (`ngx_rbtree_init`): the root is the sentinel, whose five words are 0.
+    pub fn init<B: Blocks>(&self, blocks: &mut B)
+        requires { IsContext (B.words blocks.old) self.now }
+        ensures lays { IsTree (B.words blocks.new) self.now [] }
+        ensures changes { MakesEmpty (B.words blocks.old) (B.words blocks.new) self.now.context.at }
+        ensures rest { B.rest blocks.new ≡ B.rest blocks.old }
+    {
+        write_context(blocks, self);
+    }
 }

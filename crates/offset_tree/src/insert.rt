@@ -3,21 +3,20 @@ ghost use Rattle.zone_region.specs.Members.{In};
 ghost use Rattle.offset_tree.specs.Keys.{IsForm, rank_of};
 ghost use Rattle.offset_tree.specs.Layout.{CanInsert, Inserted};
 ghost use Rattle.offset_tree.specs.Bounds.{search_cost};
-ghost use Rattle.offset_tree.specs.Trees.{IsDrawn};
-ghost use Rattle.offset_tree.specs.Inserting.{Opening};
+ghost use Rattle.offset_tree.specs.Inside.Trees.{IsDrawn};
+ghost use Rattle.offset_tree.specs.Inside.Inserting.{Opening};
 
 use crate::attach::attach;
+use crate::insert_fixup::insert_fixup;
 use crate::keys::compare_at;
 use crate::links::sentinel;
-use crate::mend::Place;
-use crate::repair::repair;
+use crate::position::Position;
 use crate::side::Side;
 use crate::tree::Tree;
 use std::cmp::Ordering;
 use std::sync::ledger::Ledger;
 use zone_key::Key;
-use zone_region::blocks::{Block, Blocks};
-use zone_region::steps::Steps;
+use zone_region::{Block, Blocks, Steps};
 
 /// The empty place for a hash and key that no block has.
 fn gap_for<B: Blocks, L: Ledger>(
@@ -26,7 +25,7 @@ fn gap_for<B: Blocks, L: Ledger>(
     hash: u64,
     key: &Key,
     steps: &mut Steps<L>,
-) -> Place
+) -> Position
     requires form { IsForm t.now.form }
     requires there { ((xs : List ℕ) × IsDrawn (B.words blocks.now) t.now xs × ((x : ℕ) → In x xs →
         rank_of (B.words blocks.now) t.now.form x ≢ (hash, key.now))) }
@@ -41,7 +40,7 @@ fn gap_for<B: Blocks, L: Ledger>(
     let mut side = Side::Left;
     for round in 0..u64::MAX {
         if at == nil {
-            return Place { at, parent, side };
+            return Position { at, parent, side };
         }
         match compare_at(blocks, &t.form, at, hash, key, steps) {
             Ordering::Less => {
@@ -60,26 +59,28 @@ fn gap_for<B: Blocks, L: Ledger>(
     unreachable!()
 }
 
-/// Puts a block into the tree (`ngx_rbtree_insert`). Its words hold the key's hash, length and bytes already.
-///
-/// It reads at most three times as many words as a search for the key may read, and 24 more, with those of the repair.
-pub fn insert<B: Blocks, L: Ledger>(
-    blocks: &mut B,
-    t: &Tree,
-    b: Block,
-    key: &Key,
-    steps: &mut Steps<L>,
-)
-    requires form { IsForm t.now.form }
-    requires there { ((xs : List ℕ) × CanInsert (B.words blocks.old) t.now b.at key.now xs) }
-    ensures inserted { (xs : List ℕ) → CanInsert (B.words blocks.old) t.now b.at key.now xs →
-        Inserted (B.words blocks.old) (B.words blocks.new) t.now b.at xs }
-    ensures cost { (xs : List ℕ) → CanInsert (B.words blocks.old) t.now b.at key.now xs →
-        steps.new ≤ steps.old + (3 * search_cost (length xs) (length key.now) + 24) }
-    ensures rest { B.rest blocks.new ≡ B.rest blocks.old }
-{
-    let hash = blocks.word(b, 0, steps);
-    let place = gap_for(blocks, t, hash, key, steps);
-    attach(blocks, t, place.parent, place.side, b.at, steps);
-    repair(blocks, t, b.at, steps);
+impl Tree {
+    /// Puts a block into the tree (`ngx_rbtree_insert`). Its words hold the key's hash, length and bytes already.
+    ///
+    /// It reads at most three times as many words as a search for the key may read, and 24 more, with those of the repair.
+    pub fn insert<B: Blocks, L: Ledger>(
+        &self,
+        blocks: &mut B,
+        b: Block,
+        key: &Key,
+        steps: &mut Steps<L>,
+    )
+        requires form { IsForm self.now.form }
+        requires there { ((xs : List ℕ) × CanInsert (B.words blocks.old) self.now b.at key.now xs) }
+        ensures inserted { (xs : List ℕ) → CanInsert (B.words blocks.old) self.now b.at key.now xs →
+            Inserted (B.words blocks.old) (B.words blocks.new) self.now b.at xs }
+        ensures cost { (xs : List ℕ) → CanInsert (B.words blocks.old) self.now b.at key.now xs →
+            steps.new ≤ steps.old + (3 * search_cost (length xs) (length key.now) + 24) }
+        ensures rest { B.rest blocks.new ≡ B.rest blocks.old }
+    {
+        let hash = blocks.word(b, 0, steps);
+        let place = gap_for(blocks, self, hash, key, steps);
+        attach(blocks, self, place.parent, place.side, b.at, steps);
+        insert_fixup(blocks, self, b.at, steps);
+    }
 }

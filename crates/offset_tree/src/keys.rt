@@ -6,8 +6,7 @@ use crate::tree::Form;
 use std::cmp::Ordering;
 use std::sync::ledger::Ledger;
 use zone_key::Key;
-use zone_region::blocks::{Block, Blocks};
-use zone_region::steps::Steps;
+use zone_region::{Block, Blocks, Steps};
 
 /// Byte `k` of a word, the lowest first.
 fn byte_in(word: u64, k: u64) -> u64

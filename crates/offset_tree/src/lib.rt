@@ -2,16 +2,18 @@
 #![tactic(auto)]
 
 mod attach;
-pub mod find;
-pub mod init;
-pub mod insert;
+mod delete_fixup;
+mod find;
+mod init;
+mod insert;
+mod insert_fixup;
 mod keys;
 mod links;
-mod mend;
-pub mod remove;
-mod repair;
+mod position;
+mod remove;
 mod side;
-pub mod tree;
+pub mod theorems;
+mod tree;
 mod turns;
 
 pub use tree::{Form, Tree};

@@ -1,13 +1,12 @@
 ghost use Rattle.std.specs.Prelude.{◌≡◌, ◌≢◌, ◌+◌, ◌^◌, ◌≤◌, length};
 ghost use Rattle.zone_region.specs.Words.{word_at, SetsWord};
-ghost use Rattle.offset_tree.specs.Sides.{index_of, other_of};
-ghost use Rattle.offset_tree.specs.Links.{SetsTwo, SetsParent, Replaces, red_at, side_at, with_colour};
+ghost use Rattle.offset_tree.specs.Inside.Sides.{child_word, other_of};
+ghost use Rattle.offset_tree.specs.Inside.Links.{SetsTwo, SetsParent, Replaces, red_at, side_at, with_colour};
 
 use crate::side::Side;
 use crate::tree::Tree;
 use std::sync::ledger::Ledger;
-use zone_region::blocks::{Block, Blocks};
-use zone_region::steps::Steps;
+use zone_region::{Block, Blocks, Steps};
 
 /// The word of a node that links its parent.
 pub const PARENT: u64 = 3;
@@ -17,7 +16,7 @@ pub const COLOUR: u64 = 4;
 
 /// The word of a node that links its child on one side.
 pub(crate) fn index(side: Side) -> u64
-    ensures { result ≡ index_of side }
+    ensures { result ≡ child_word side }
 {
     match side {
         Side::Left => 1,
@@ -51,7 +50,7 @@ pub(crate) fn child<B: Blocks, L: Ledger>(
     steps: &mut Steps<L>,
 ) -> u64
     requires { 5 ≤ length (B.words blocks.now x) }
-    ensures value { result ≡ word_at (B.words blocks.now) x (index_of side) }
+    ensures value { result ≡ word_at (B.words blocks.now) x (child_word side) }
     ensures cost { steps.new ≡ steps.old + 1 }
 {
     blocks.word(Block { at: x }, index(side), steps)
@@ -69,7 +68,7 @@ pub(crate) fn parent<B: Blocks, L: Ledger>(blocks: &B, x: u64, steps: &mut Steps
 /// Sets a node's child on one side, and its parent.
 pub(crate) fn set_two<B: Blocks>(blocks: &mut B, x: u64, side: Side, v: u64, p: u64)
     requires { 5 ≤ length (B.words blocks.old x) }
-    ensures does { SetsTwo (B.words blocks.old) (B.words blocks.new) x (index_of side) v 3 p }
+    ensures does { SetsTwo (B.words blocks.old) (B.words blocks.new) x (child_word side) v 3 p }
     ensures rest { B.rest blocks.new ≡ B.rest blocks.old }
 {
     blocks.set(Block { at: x }, index(side), v);

@@ -3,25 +3,24 @@ ghost use Rattle.zone_region.specs.Words.{word_at};
 ghost use Rattle.zone_region.specs.Members.{In};
 ghost use Rattle.offset_tree.specs.Keys.{IsForm};
 ghost use Rattle.offset_tree.specs.Layout.{IsTree};
-ghost use Rattle.offset_tree.specs.Shape.{blocks_of};
-ghost use Rattle.offset_tree.specs.Links.{IsShape, side_at};
+ghost use Rattle.offset_tree.specs.Inside.Shape.{blocks_of, Shape};
+ghost use Rattle.offset_tree.specs.Inside.Links.{IsShape, side_at};
 ghost use Rattle.offset_tree.specs.Changes.{ChangesNodes};
-ghost use Rattle.offset_tree.specs.Balance.{Settled};
-ghost use Rattle.offset_tree.specs.Mending.{OneSided};
-ghost use Rattle.offset_tree.specs.Attaching.{IsFresh, Filled};
-ghost use Rattle.offset_tree.specs.Removing.{Seat, seated, Leftward};
-ghost use Rattle.offset_tree.specs.Shape.{Shape};
+ghost use Rattle.offset_tree.specs.Inside.Balance.{Settled};
+ghost use Rattle.offset_tree.specs.Inside.DeleteFixup.{OneSided};
+ghost use Rattle.offset_tree.specs.Inside.Attaching.{IsFresh, Filled};
+ghost use Rattle.offset_tree.specs.Inside.Removing.{Seat, seated, Leftward};
 
+use crate::delete_fixup::delete_fixup;
 use crate::links::{
     PARENT, child, is_red, other, paint, parent, replace, sentinel, set_parent, side_of,
 };
-use crate::mend::{Place, mend};
+use crate::position::Position;
 use crate::side::Side;
 use crate::tree::Tree;
 use std::marker::Brand;
 use std::sync::ledger::{Blank, Ledger};
-use zone_region::blocks::{Block, Blocks};
-use zone_region::steps::Steps;
+use zone_region::{Block, Blocks, Steps};
 
 /// The side of `p` on which `y` is linked, if `p` isn't 0.
 fn hole_side<B: Blocks, L: Ledger>(blocks: &B, p: u64, y: u64, steps: &mut Steps<L>) -> Side
@@ -58,10 +57,10 @@ fn take_out<B: Blocks, L: Ledger>(
     set_parent(blocks, t, v, p);
     replace(blocks, t, p, y, v, steps);
     if !red {
-        mend(
+        delete_fixup(
             blocks,
             t,
-            Place {
+            Position {
                 at: v,
                 parent: p,
                 side: hole,
@@ -185,19 +184,21 @@ fn remove_with<B: Blocks, L: Ledger>(blocks: &mut B, t: &Tree, b: Block, blank: 
     unlink(blocks, t, b, &mut steps);
 }
 
-/// Takes a block of the tree out (`ngx_rbtree_delete`). Nobody counts its reads.
-///
-/// Where the block has two children, the block after it takes its place. The removed block's hash,
-/// length and key stay in its words.
-pub fn remove<B: Blocks>(blocks: &mut B, t: &Tree, b: Block)
-    requires form { IsForm t.now.form }
-    requires there { ((xs : List ℕ) × IsTree (B.words blocks.old) t.now xs × In b.at xs) }
-    ensures removed { (before after : List ℕ) →
-        IsTree (B.words blocks.old) t.now (before ++ b.at ∷ after) →
-        IsTree (B.words blocks.new) t.now (before ++ after) }
-    ensures changes { (xs : List ℕ) → IsTree (B.words blocks.old) t.now xs → In b.at xs →
-        ChangesNodes (B.words blocks.old) (B.words blocks.new) t.now.context.at xs }
-    ensures rest { B.rest blocks.new ≡ B.rest blocks.old }
-{
-    remove_with::<B, Brand>(blocks, t, b, Blank::new(1))
+impl Tree {
+    /// Takes a block of the tree out (`ngx_rbtree_delete`). Nobody counts its reads.
+    ///
+    /// Where the block has two children, the block after it takes its place. The removed block's hash,
+    /// length and key stay in its words.
+    pub fn remove<B: Blocks>(&self, blocks: &mut B, b: Block)
+        requires form { IsForm self.now.form }
+        requires there { ((xs : List ℕ) × IsTree (B.words blocks.old) self.now xs × In b.at xs) }
+        ensures removed { (before after : List ℕ) →
+            IsTree (B.words blocks.old) self.now (before ++ b.at ∷ after) →
+            IsTree (B.words blocks.new) self.now (before ++ after) }
+        ensures changes { (xs : List ℕ) → IsTree (B.words blocks.old) self.now xs → In b.at xs →
+            ChangesNodes (B.words blocks.old) (B.words blocks.new) self.now.context.at xs }
+        ensures rest { B.rest blocks.new ≡ B.rest blocks.old }
+    {
+        remove_with::<B, Brand>(blocks, self, b, Blank::new(1))
+    }
 }

@@ -1,4 +1,4 @@
-use zone_region::blocks::Block;
+use zone_region::Block;
 
 /// Byte places in a node of a tree: 34, 2, 80 in a request node, and 33, 1, 36 in a connection node.
 #[derive(Clone, Copy, Debug, PartialEq, Eq)]

@@ -1,13 +1,12 @@
 ghost use Rattle.std.specs.Prelude.{◌≡◌, ◌+◌, ◌^◌, ◌≤◌};
-ghost use Rattle.offset_tree.specs.Links.{IsShape};
-ghost use Rattle.offset_tree.specs.Moves.{Turn, unturned, turned, Spot, shape_at, recoloured, ChangesTree};
+ghost use Rattle.offset_tree.specs.Inside.Links.{IsShape};
+ghost use Rattle.offset_tree.specs.Inside.Moves.{Turn, unturned, turned, Spot, shape_at, recoloured, ChangesTree};
 
 use crate::links::{child, other, paint, parent, replace, set_parent, set_two};
 use crate::side::Side;
 use crate::tree::Tree;
 use std::sync::ledger::Ledger;
-use zone_region::blocks::Blocks;
-use zone_region::steps::Steps;
+use zone_region::{Blocks, Steps};
 
 /// Brings the child of `x` on the other side up, and `x` down on this side.
 pub(crate) fn rotate<B: Blocks, L: Ledger>(

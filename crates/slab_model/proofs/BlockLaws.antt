@@ -386,10 +386,10 @@ new_block-law slab size at s some given =
     record {
       lies = blocks.1 at live;
       apart = λ other was.
-        let ne : other ≢ at = λ e. absurd (omega (arith, g.0.fresh, ap (λ k. live_bytes slab k) e)) in
-        let same = g.0.others other ne in
-        elim (blocks.0 at other live (omega (arith, same)) (λ e. ne (sym e))) [
-          | inl before ↦ inl (omega (arith, before, g.0.bytes))
-          | inr after ↦ inr (omega (arith, after, same))
-        ];
+          let ne : other ≢ at = λ e. absurd (omega (arith, g.0.fresh, ap (λ k. live_bytes slab k) e)) in
+          let same = g.0.others other ne in
+          elim (blocks.0 at other live (omega (arith, same)) (λ e. ne (sym e))) [
+            | inl before ↦ inl (omega (arith, before, g.0.bytes))
+            | inr after ↦ inr (omega (arith, after, same))
+          ];
     }

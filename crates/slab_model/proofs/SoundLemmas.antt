@@ -11,7 +11,7 @@ use Rattle.slab_model.specs.declared.shape.Shape.{Shape}
 use Rattle.slab_model.specs.declared.page.PageState.{PageState}
 use Rattle.slab_model.specs.declared.page.PageState.TheVariants.{Free, First, Later, Class}
 use Rattle.slab_model.specs.Geometry.{IsInLimits, first_index, usable_blocks, pages_of}
-use Rattle.zone_region.specs.Members.{In, IsDistinct}
+use Rattle.zone_region.specs.Members.{IsDistinct}
 use Rattle.slab_model.specs.Numbers.{is_member, with_number, without}
 use Rattle.slab_model.specs.Runs.{AreSound, is_covered, is_within, take_run, give_run, first_fit}
 use Rattle.slab_model.specs.State.{Slab, no_stat, page_at, list_of, stat_of, fill_pages, fresh_slab}

@@ -5,7 +5,7 @@ use Rattle.slab_model.specs.declared.shape.Shape.{Shape}
 use Rattle.slab_model.specs.declared.stat.Stat.{Stat}
 use Rattle.slab_model.specs.declared.page.PageState.{PageState}
 use Rattle.slab_model.specs.declared.page.PageState.TheVariants.{Free}
-use Rattle.slab_model.specs.Geometry.{start_of, pages_of, class_count}
+use Rattle.slab_model.specs.Geometry.{pages_of, class_count}
 
 -- a pool in a zone of this shape
 pub record Slab : Type 0 where

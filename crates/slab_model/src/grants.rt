@@ -18,7 +18,7 @@ use crate::parts::Parts;
 use crate::runs::{first_fit, take_run};
 use std::alloc::Global;
 use zone_outside::NoMemory;
-use zone_region::blocks::Block;
+use zone_region::Block;
 
 /// The block of an index in a page of a class.
 fn block_at(parts: &Parts, class: u32, page: u64, index: u64) -> Block

@@ -16,7 +16,13 @@ fn live_in_page(shape: Shape, page: &PageState, place: u64) -> u64
     ensures { result ≡ live_of shape page.now place }
 {
     match page {
-        PageState::First { pages } => { if place == 0 { page_size(shape) * *pages } else { 0 } }
+        PageState::First { pages } => {
+            if place == 0 {
+                page_size(shape) * *pages
+            } else {
+                0
+            }
+        }
         PageState::Class { class, used } => {
             let size = class_size(*class);
             if place % size == 0 && used.contains(place / size) {
@@ -43,5 +49,9 @@ pub fn live_bytes(parts: &Parts, at: u64) -> u64
     if page >= parts.pages.len() as u64 {
         return 0;
     }
-    live_in_page(parts.shape, &parts.pages[page as usize], (at - start) % size)
+    live_in_page(
+        parts.shape,
+        &parts.pages[page as usize],
+        (at - start) % size,
+    )
 }

@@ -21,7 +21,7 @@ use crate::stat::Stat;
 use std::alloc::Global;
 use std::marker::Model;
 use zone_outside::NoMemory;
-use zone_region::blocks::Block;
+use zone_region::Block;
 
 /// The slab pool of one zone, kept in lists and without the zone's words.
 #[derive(Debug, Drop)]

@@ -51,7 +51,10 @@ fn give_last(parts: &mut Parts, alloc: Global, page: u64, class: u32) -> Result<
     parts.pages[page as usize] = PageState::Free;
     parts.runs = runs;
     parts.lists[class as usize] = list;
-    parts.stats[class as usize] = count_return(parts.stats[class as usize], usable_blocks(parts.shape, class));
+    parts.stats[class as usize] = count_return(
+        parts.stats[class as usize],
+        usable_blocks(parts.shape, class),
+    );
     Ok(())
 }
 

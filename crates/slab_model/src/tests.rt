@@ -4,7 +4,7 @@ use std::alloc::Global;
 use std::process::Abort;
 use std::test::Fail;
 use zone_outside::NoMemory;
-use zone_region::blocks::Block;
+use zone_region::Block;
 
 /// A call, and what it is to answer.
 #[derive(Clone, Copy)]

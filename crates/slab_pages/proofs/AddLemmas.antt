@@ -3,10 +3,10 @@ use Rattle.std.proofs.Common.{ℕ, ◌≡◌, ◌≢◌, ◌⊎◌, ◌+◌, ◌
 use Rattle.std.proofs.lemmas.Bool.{cases_lt}
 use Rattle.slab_model.specs.declared.runs.Run.{Run}
 use Rattle.slab_model.specs.Runs.{AreRunsApart, IsRunApart, AreSound, is_covered}
-use Rattle.slab_pages.specs.Places.{free_head, pfree_word, descriptor, next_at, prev_at, IsPlace, Links, KeepsOthers, is_run_word, descriptor_word, descriptor_page, free_word}
+use Rattle.slab_pages.specs.Places.{free_head, pfree_word, descriptor, next_at, prev_at, IsDescriptorOffset, KeepsOthers, is_run_word, descriptor_word, descriptor_page, free_word}
 use Rattle.slab_pages.specs.Layout.{LaysFrom}
 use Rattle.slab_pages.specs.Frames.{SameWords}
-use Rattle.slab_pages.specs.Steps.{LaysList, IsBlank, BeginsRun, IsCleared, Relists}
+use Rattle.slab_pages.specs.RunSteps.{Links, LaysList, IsBlank, BeginsRun, IsCleared, Relists}
 use Rattle.slab_pages.proofs.PlaceLemmas.{descriptor-word, descriptor-head, descriptor-injective, descriptor-other, SameWords-then, Links-slab, Links-next, Links-prev, Links-prev_head}
 use Rattle.slab_pages.proofs.ListLemmas.{HasTail-kept, LaysFrom-kept, covered-first, covered-rest, covers-apart}
 use Rattle.slab_pages.proofs.UnlinkLemmas.{beyond_run, IsNode, node_place, links_free, links_kept, kept_then}
@@ -41,7 +41,7 @@ begun_kept old new run runs covered h = record {
   ]
 
 -- two links leave a descriptor that has no part in them
-pub links_other : (old new : List ℕ) (a b page : ℕ) → IsPlace a → IsPlace b → descriptor page ≢ a → descriptor page ≢ b → Links old new a b → SameWords old new (descriptor page)
+pub links_other : (old new : List ℕ) (a b page : ℕ) → IsDescriptorOffset a → IsDescriptorOffset b → descriptor page ≢ a → descriptor page ≢ b → Links old new a b → SameWords old new (descriptor page)
 links_other old new a b page pa pb na nb h = record {
   slab = Links-slab old new a b (descriptor page) pa pb (inr (page, refl)) h;
   next = Links-next old new a b (descriptor page) pa pb (inr (page, refl)) na h;
@@ -63,16 +63,16 @@ follow count old mid next new run [] some apart sound h begins one two =
 follow count old mid next new run (y ∷ ys) some apart sound h begins one two =
     let o = descriptor run.first in
     let n = next_at old free_head in
-    let po : IsPlace o = inr (run.first, refl) in
-    let pn : IsPlace n = inr (y.first, h.0) in
-    let head : IsPlace free_head = inl refl in
+    let po : IsDescriptorOffset o = inr (run.first, refl) in
+    let pn : IsDescriptorOffset n = inr (y.first, h.0) in
+    let head : IsDescriptorOffset free_head = inl refl in
     let far = λ (page : ℕ) (c : is_covered page (y ∷ ys) ≡ true). covers-apart run (y ∷ ys) page apart c in
     let not_o = λ (page : ℕ) (c : is_covered page (y ∷ ys) ≡ true). descriptor-other page run.first (beyond_first run page some (far page c)) in
     let same = λ (page : ℕ) (c : is_covered page (y ∷ ys) ≡ true) (ne : page ≢ y.first). SameWords-then old next new (descriptor page)
     (SameWords-then old mid next (descriptor page) (begun_other old mid run page begins (far page c)) (links_other mid next o n page po pn (not_o page c) (λ e. ne (descriptor-injective page y.first (e ∙ h.0))) one))
     (links_other next new free_head o page head po (descriptor-head page) (not_o page c) two) in
     let c0 = covered-first y ys y.first (omega arith) (omega (arith, sound.0)) in
-    let y0 : IsPlace (descriptor y.first) = inr (y.first, refl) in
+    let y0 : IsDescriptorOffset (descriptor y.first) = inr (y.first, refl) in
     let begin0 = begun_other old mid run y.first begins (far y.first c0) in
     let back : prev_at next (descriptor y.first) ≡ o = subst (λ (x : ℕ). prev_at next x ≡ o) h.0 (one.prev (λ e. descriptor-head y.first (sym h.0 ∙ e))) in
     let after = Links-next next new free_head o (descriptor y.first) head po y0 (descriptor-head y.first) two ∙ Links-next mid next o n (descriptor y.first) po pn y0 (not_o y.first c0) one ∙ begin0.next in (
@@ -89,10 +89,10 @@ pub added : (count : ℕ) (runs : List Run) (run : Run) (old mid next new : List
 added count runs run old mid next new h clear begins one two =
     let o = descriptor run.first in
     let n = next_at old free_head in
-    let po : IsPlace o = inr (run.first, refl) in
+    let po : IsDescriptorOffset o = inr (run.first, refl) in
     let node = first_node old count runs h.sound h.linked in
     let pn = node_place n runs node in
-    let head : IsPlace free_head = inl refl in
+    let head : IsDescriptorOffset free_head = inl refl in
     let begin = begun_head old mid run begins in
     let blank : IsBlank old run = record {
       slabs = λ page low high. (clear.cleared page (omega (arith, low)) high).slab_is;

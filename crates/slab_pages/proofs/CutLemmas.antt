@@ -5,9 +5,9 @@ use Rattle.std.proofs.lemmas.Bool.{cases_eq}
 use Rattle.slab_model.specs.declared.runs.Run.{Run}
 use Rattle.slab_model.specs.Runs.{AreSound, pages_from, first_fit, cut_run, take_run}
 use Rattle.slab_model.proofs.RunLemmas.{AreSound-take}
-use Rattle.slab_pages.specs.Places.{free_head, pfree_word, descriptor, slab_at, next_at, prev_at, IsPlace, Links}
+use Rattle.slab_pages.specs.Places.{free_head, pfree_word, descriptor, slab_at, next_at, prev_at, IsDescriptorOffset}
 use Rattle.slab_pages.specs.Layout.{LaysFrom}
-use Rattle.slab_pages.specs.Steps.{LaysList, IsBlank, BeginsRun, Relists, Unlinks, change, without_run}
+use Rattle.slab_pages.specs.RunSteps.{Links, LaysList, IsBlank, BeginsRun, Relists, Unlinks, change, without_run}
 use Rattle.slab_pages.proofs.PlaceLemmas.{descriptor-head, descriptor-other, SameWords-then, Links-slab, Links-next, Links-prev, Links-prev_head}
 use Rattle.slab_pages.proofs.ListLemmas.{pages_from-here, pages_from-covers, pages_from-beyond, HasTail-kept, covered-rest, Near, Outside, relink, relaid}
 use Rattle.slab_pages.proofs.UnlinkLemmas.{run_at, IsNode, node_place, node_before, node_after, before_beyond, after_beyond, near_here, links_free, links_kept, kept_then}
@@ -53,8 +53,8 @@ taken_front count n first runs old mid next new h some found less begins one two
     let nb = node_after count old runs first h listed in
     let pa = node_place a runs na in
     let pb = node_place b runs nb in
-    let po : IsPlace o = inr (first + n, refl) in
-    let head : IsPlace free_head = inl refl in
+    let po : IsDescriptorOffset o = inr (first + n, refl) in
+    let head : IsDescriptorOffset free_head = inl refl in
     let not_a : o ≢ a = before_beyond count old runs first (first + n) h listed (omega arith) (omega (arith, less)) in
     let not_b : o ≢ b = after_beyond count old runs first (first + n) h listed (omega arith) (omega (arith, less)) in
     let far = λ (page : ℕ) (beyond : (page < first) ⊎ (first + pages ≤ page)). apart_rest first n pages page less beyond in

@@ -4,9 +4,9 @@ use Rattle.std.proofs.lemmas.Grind.{common_steps}
 use Rattle.std.proofs.lemmas.Bool.{cases_lt}
 use Rattle.slab_model.specs.declared.runs.Run.{Run}
 use Rattle.slab_model.specs.Runs.{is_covered, pages_from, pages_before}
-use Rattle.slab_pages.specs.Places.{free_head, descriptor, slab_at, next_at, prev_at, HasWords, Links, page_limit, descriptor_word}
+use Rattle.slab_pages.specs.Places.{free_head, descriptor, slab_at, next_at, prev_at, HasWords, page_limit, descriptor_word}
 use Rattle.slab_pages.specs.Layout.{IsBusy}
-use Rattle.slab_pages.specs.Steps.{LaysList, SetsWords, FillsRun, Detaches, IsAfter, IsBefore, MarksUsed, start_at}
+use Rattle.slab_pages.specs.RunSteps.{Links, LaysList, SetsWords, FillsRun, Detaches, IsAfter, IsBefore, MarksUsed, start_at}
 use Rattle.slab_pages.proofs.PlaceLemmas.{descriptor-word, descriptor-zero, HasWords-kept}
 use Rattle.slab_pages.proofs.ListLemmas.{pages_from-within}
 use Rattle.slab_pages.proofs.UnlinkLemmas.{run_at, IsNode, node_before, node_after}

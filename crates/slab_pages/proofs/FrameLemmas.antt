@@ -1,16 +1,16 @@
 -- Each part of a slab's layout stays where the words change that it doesn't speak of.
-use Rattle.std.proofs.Common.{ℕ, ◌≡◌, ◌≢◌, ◌⊎◌, ◌+◌, ◌/◌, ◌%◌, ◌<◌, ◌≤◌, ◌^◌, true, false, List, [], ◌∷◌, length, get_or, refl, sym, ap, subst, arith, inl, inr, ◌∙◌}
+use Rattle.std.proofs.Common.{ℕ, ◌≡◌, ◌≢◌, ◌⊎◌, ◌+◌, ◌/◌, ◌%◌, ◌<◌, ◌≤◌, ◌^◌, true, false, List, [], ◌∷◌, length, get_or, set, get_or-set_same, get_or-set_other, refl, sym, ap, subst, arith, inl, inr, ◌∙◌}
 use Rattle.std.specs.Prelude.{IsBitSet}
-use Rattle.std.proofs.lemmas.Bool.{cases_lt}
+use Rattle.std.proofs.lemmas.Bool.{cases_eq, cases_lt}
 use Rattle.std.proofs.lemmas.Grind.{common_steps}
 use Rattle.slab_model.specs.declared.shape.Shape.{Shape}
 use Rattle.slab_model.specs.declared.runs.Run.{Run}
 use Rattle.slab_model.specs.declared.stat.Stat.{Stat}
-use Rattle.slab_model.specs.declared.page.PageState.TheVariants.{Free}
+use Rattle.slab_model.specs.declared.page.PageState.TheVariants.{Free, Class}
 use Rattle.slab_model.specs.Geometry.{Kind, small, exact, big, kind_of, pages_of, IsInLimits, class_count}
 use Rattle.zone_region.specs.Members.{In}
 use Rattle.slab_model.specs.Runs.{is_covered}
-use Rattle.slab_model.specs.State.{Slab, classes_in, pages_in, list_of, stat_of}
+use Rattle.slab_model.specs.State.{Slab, no_stat, page_at, classes_in, pages_in, list_of, stat_of}
 use Rattle.slab_model.specs.Soundness.{IsSound, has_room}
 use Rattle.slab_model.proofs.ClassLemmas.{zone}
 use Rattle.slab_model.proofs.StateLemmas.{page_at-in}
@@ -18,8 +18,9 @@ use Rattle.slab_model.proofs.SoundLemmas.{class_page-in}
 use Rattle.slab_pages.specs.Places.{free_word, pfree_word, free_head, log_ctx_word, data_word, addr_word, head_word, stat_word, descriptor_word, class_head, page_word, bitmap_words, descriptor, slab_at, next_at, is_list_word}
 use Rattle.slab_pages.specs.Layout.{LaysRuns, HasUsedRun}
 use Rattle.slab_pages.specs.SlabLayout.{LaysHeader, LaysStat, LaysPages, LaysClass, LaysBits, LaysClassPage, LaysSlab}
-use Rattle.slab_pages.specs.Frames.{SameFrom, SameWords, SameLinks, ChangesFrom, ChangesDescriptor, SameLaid}
+use Rattle.slab_pages.specs.Frames.{SameFrom, SameWords, SameLinks, ChangesFrom, ChangesDescriptor, ChangesStat, SameLaid}
 use Rattle.slab_pages.proofs.PlaceLemmas.{descriptor-word, HasWords-kept}
+use Rattle.slab_pages.proofs.WriteLemmas.{get-written, length-written}
 use Rattle.slab_pages.proofs.ListLemmas.{LaysFrom-kept}
 use Rattle.slab_pages.proofs.JoinLemmas.{covered-within}
 
@@ -142,6 +143,17 @@ LaysClassPage-kept old new shape page class used same map h = record {
 
 -- ---- words in a row that change
 
+-- one word of them is set
+pub changes-set : (old new : List ℕ) (w v low high : ℕ) → new ≡ set old w v → low ≤ w → w < high → ChangesFrom old new low high
+changes-set old new w v low high is above below = record {
+  same_length = length-written old new w v is;
+  others = λ x apart. get-written old new w v x is (λ e. elim apart [ inl l ↦ omega (arith, l, e, above) | inr g ↦ omega (arith, g, e, below) ]);
+}
+
+-- and then another
+pub changes-then : (old mid new : List ℕ) (low high : ℕ) → ChangesFrom old mid low high → ChangesFrom mid new low high → ChangesFrom old new low high
+changes-then old mid new low high h k = record { same_length = k.same_length ∙ h.same_length; others = λ w apart. k.others w apart ∙ h.others w apart }
+
 -- words on one side of them
 pub same-away : (old new : List ℕ) (low high a b : ℕ) → ChangesFrom old new low high → (high ≤ a) ⊎ (b ≤ low) → SameFrom old new a b
 same-away old new low high a b h apart = λ w x y. h.others w (elim apart [ inl l ↦ inr (omega (arith, l, x)) | inr g ↦ inl (omega (arith, g, y)) ])
@@ -193,6 +205,15 @@ HasUsedRun-descriptor old new first count page h some apart = HasUsedRun-away ol
 pub LaysClassPage-descriptor : (old new : List ℕ) (shape : Shape) (other class : ℕ) (used : List ℕ) (page : ℕ) → IsInLimits shape → ChangesDescriptor old new page → page < pages_of shape → other ≢ page → LaysClassPage old shape other class used → LaysClassPage new shape other class used
 LaysClassPage-descriptor old new shape other class used page limits h below ne = LaysClassPage-away old new shape other class used (descriptor_word page) (descriptor_word page + 3) h (descriptors-apart page other ne) (λ _. inl (omega (arith, below, pages-behind shape other limits)))
 
+-- a slab word that changes, as that of a page of 64 blocks or fewer with each grant and return: all links stay
+pub LaysClass-slab_word : (old new : List ℕ) (shape : Shape) (class : ℕ) (pages : List ℕ) (page : ℕ) → ChangesFrom old new (descriptor_word page) (descriptor_word page + 1) → class < class_count shape → LaysClass old shape class pages → LaysClass new shape class pages
+LaysClass-slab_word old new shape class pages page h known =
+    LaysClass-kept old new shape class pages (same-away old new (descriptor_word page) (descriptor_word page + 1) (head_word class) (head_word class + 3) h (inr (omega (arith, known))))
+    (λ q m. let at = descriptor-word q in record {
+      next = h.others (descriptor q / 8 + 1) (elim (cases_lt q page) [ inl l ↦ inl (omega (arith, l, at)) | inr g ↦ inr (omega (arith, g, at)) ]);
+      prev = h.others (descriptor q / 8 + 2) (elim (cases_lt q page) [ inl l ↦ inl (omega (arith, l, at)) | inr g ↦ inr (omega (arith, g, at)) ]);
+    })
+
 -- ---- the whole slab
 
 -- the pages that a class lists are pages of the zone
@@ -200,6 +221,10 @@ pub listed-below : (slab : Slab) (class page : ℕ) → IsSound slab → class <
 listed-below slab class page sound known m = omega (arith, page_at-in slab.pages page (λ e. none slab.shape class (sym (ap (has_room slab.shape class) e) ∙ ((sound.lists class known).just page).0 m)), sound.page_count) where
   none : (shape : Shape) (class : ℕ) → has_room shape class Free ≡ true → ⊥
   none shape class h = cc
+
+-- and so are the pages of a class
+pub class-below : (slab : Slab) (page class : ℕ) (used : List ℕ) → IsSound slab → page_at slab.pages page ≡ Class class used → page < pages_in slab
+class-below slab page class used sound is = class_page-in slab class page used sound is
 
 -- the slab stays laid out where all words that its layout speaks of stay
 pub LaysSlab-kept : (slab : Slab) (old new : List ℕ) → IsSound slab → SameLaid old new slab → LaysSlab old slab → LaysSlab new slab
@@ -213,4 +238,29 @@ LaysSlab-kept slab old new sound same h =
       stats = λ class known. LaysStat-kept old new class (stat_of slab class) (λ w a b. low w (omega (arith, b, known)) (omega (arith, a))) (h.stats class known);
       used_runs = λ page count is. let f = sound.used_runs.followed page count is in HasUsedRun-kept old new page count f.0 (λ other a b. of_page other (omega (arith, b, f.1))) (h.used_runs page count is);
       classes = λ page class used is. LaysClassPage-kept old new slab.shape page class used (of_page page (class_page-in slab class page used sound is)) (same.bitmaps page class used is) (h.classes page class used is);
+    }
+
+-- a slab with other statistics of a class
+abbrev pub with_stat : Slab → ℕ → Stat → Slab
+with_stat slab class stat = record { shape = slab.shape; pages = slab.pages; runs = slab.runs; lists = slab.lists; stats = set slab.stats class stat }
+
+-- where the statistics of a class change alone, the slab with the new ones is laid out
+pub LaysSlab-stat : (slab : Slab) (old new : List ℕ) (class : ℕ) (stat : Stat) → IsInLimits slab.shape → class < classes_in slab → class < length slab.stats → ChangesStat old new class → LaysStat new class stat → LaysSlab old slab → LaysSlab new (with_stat slab class stat)
+LaysSlab-stat slab old new class stat limits known room h now l =
+    let low = stat_word class in
+    let high = stat_word class + 4 in
+    let page_same = λ (page : ℕ). same-descriptor old new page (same-away old new low high (descriptor_word page) (descriptor_word page + 3) h (inl (omega (arith, known)))) in
+    record {
+      header = LaysHeader-away slab.shape old new low high h (omega arith) l.header;
+      runs = LaysRuns-away slab.shape old new slab.runs low high h (omega arith) (λ page _. inl (omega (arith, known))) l.runs;
+      lists = λ c ok. LaysClass-away old new slab.shape c (list_of slab c) low high h (inr (omega (arith, ok))) (λ page _. inl (omega (arith, known))) (l.lists c ok);
+      stats = λ c ok. elim (cases_eq c class) [
+        | inl e ↦ subst (λ (k : ℕ). LaysStat new k (get_or (set slab.stats class stat) k no_stat)) (sym e) (subst (λ (t : Stat). LaysStat new class t) (sym (get_or-set_same slab.stats class stat no_stat room)) now)
+        | inr ne ↦ subst (λ (t : Stat). LaysStat new c t) (sym (get_or-set_other slab.stats class c stat no_stat ne)) (LaysStat-away old new c (stat_of slab c) low high h (elim (cases_lt c class) [ inl less ↦ inr (omega (arith, less)) | inr more ↦ inl (omega (arith, more, ne)) ]) (l.stats c ok))
+      ];
+      used_runs = λ page count is. let was = l.used_runs page count is in record {
+        first = HasWords-kept old new (descriptor page) _ _ _ (page_same page) was.first;
+        later = λ other a b. HasWords-kept old new (descriptor other) _ _ _ (page_same other) (was.later other a b);
+      };
+      classes = λ page c used is. LaysClassPage-away old new slab.shape page c used low high h (inl (omega (arith, known))) (λ _. inl (omega (arith, known, pages-behind slab.shape page limits))) (l.classes page c used is);
     }

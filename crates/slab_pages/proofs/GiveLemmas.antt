@@ -9,7 +9,7 @@ use Rattle.slab_model.proofs.RunLemmas.{AreSound-give, is_covered-give, is_cover
 use Rattle.slab_pages.specs.Places.{free_head, pfree_word, descriptor, KeepsOthers, is_list_word, is_run_word, descriptor_word, descriptor_page, free_word}
 use Rattle.slab_pages.specs.Layout.{IsBusy, CanComeBack}
 use Rattle.slab_pages.specs.Frames.{SameWords}
-use Rattle.slab_pages.specs.Steps.{LaysList, FillsRun, Detaches, IsCleared, Relists, MarksUsed, TakesRun, GivesRun, IsAfter, IsBefore, without_run}
+use Rattle.slab_pages.specs.RunSteps.{LaysList, FillsRun, Detaches, IsCleared, Relists, MarksUsed, TakesRun, GivesRun, IsAfter, IsBefore, without_run}
 use Rattle.slab_pages.proofs.PlaceLemmas.{descriptor-word, HasWords-kept, SameWords-then}
 use Rattle.slab_pages.proofs.WriteLemmas.{get-written, get-read, length-written}
 use Rattle.slab_pages.proofs.ListLemmas.{covers-apart}

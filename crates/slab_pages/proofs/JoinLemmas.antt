@@ -5,7 +5,7 @@ use Rattle.std.proofs.lemmas.Grind.{common_steps}
 use Rattle.std.proofs.lemmas.Bool.{cases_eq, cases_lt}
 use Rattle.slab_model.specs.declared.runs.Run.{Run}
 use Rattle.slab_model.specs.Runs.{IsRunApart, AreSound, is_covered, pages_from, pages_before, is_beside}
-use Rattle.slab_pages.specs.Steps.{without_run}
+use Rattle.slab_pages.specs.RunSteps.{without_run}
 use Rattle.slab_pages.proofs.ListLemmas.{pages_from-there, pages_from-covers, pages_from-apart, covered-first}
 use Rattle.slab_pages.proofs.UnlinkLemmas.{AreSound-without}
 

@@ -4,11 +4,11 @@ use Rattle.std.proofs.lemmas.Grind.{common_steps}
 use Rattle.std.proofs.lemmas.Bool.{cases_eq, cases_lt}
 use Rattle.slab_model.specs.declared.runs.Run.{Run}
 use Rattle.slab_model.specs.Runs.{AreRunsApart, IsRunApart, AreSound, is_covered, pages_from}
-use Rattle.slab_pages.specs.Places.{free_head, descriptor, slab_at, next_at, prev_at, IsPlace}
+use Rattle.slab_pages.specs.Places.{free_head, descriptor, slab_at, next_at, prev_at, IsDescriptorOffset}
 use Rattle.slab_pages.specs.Layout.{HasTail, LaysFrom}
 use Rattle.slab_pages.proofs.PlaceLemmas.{descriptor-head, descriptor-injective, HasWords-kept}
 use Rattle.slab_pages.specs.Frames.{SameWords}
-use Rattle.slab_pages.specs.Steps.{change}
+use Rattle.slab_pages.specs.RunSteps.{change}
 
 -- ---- pages and runs
 
@@ -147,7 +147,7 @@ relink count old new a before x (y ∷ ys) apart sound out near next prev h =
       covers-first y ys page apart some c e = elim (covers-apart y ys page apart c) [ inl l ↦ omega (arith, l, e) | inr g ↦ omega (arith, g, e, some) ]
 
 -- a change at one run leaves the rest of the list
-pub relaid : (count : ℕ) (old new : List ℕ) (first : ℕ) (f : Run → List Run → List Run) (p : ℕ) (runs : List Run) → IsPlace p → Outside p runs → AreSound count runs → LaysFrom old p runs → 0 < pages_from first runs → Near old new first (pages_from first runs) (prev_at old (descriptor first)) (next_at old (descriptor first)) → ((q : ℕ) (x : Run) (xs : List Run) → x.first ≡ first → prev_at old (descriptor first) ≡ q → Outside q (x ∷ xs) → AreSound count (x ∷ xs) → pages_from first (x ∷ xs) ≡ pages_from first runs → LaysFrom old q (x ∷ xs) → LaysFrom new q (f x xs)) → LaysFrom new p (change first f runs)
+pub relaid : (count : ℕ) (old new : List ℕ) (first : ℕ) (f : Run → List Run → List Run) (p : ℕ) (runs : List Run) → IsDescriptorOffset p → Outside p runs → AreSound count runs → LaysFrom old p runs → 0 < pages_from first runs → Near old new first (pages_from first runs) (prev_at old (descriptor first)) (next_at old (descriptor first)) → ((q : ℕ) (x : Run) (xs : List Run) → x.first ≡ first → prev_at old (descriptor first) ≡ q → Outside q (x ∷ xs) → AreSound count (x ∷ xs) → pages_from first (x ∷ xs) ≡ pages_from first runs → LaysFrom old q (x ∷ xs) → LaysFrom new q (f x xs)) → LaysFrom new p (change first f runs)
 relaid count old new first f p [] place out sound h some near local = absurd (omega arith)
 relaid count old new first f p (x ∷ xs) place out sound h some near local = elim (cases_eq x.first first) [
   | inl e ↦ subst (λ (rs : List Run). LaysFrom new p rs) (sym (change-here x xs first f e)) (local p x xs e (subst (λ (k : ℕ). prev_at old (descriptor k) ≡ p) e h.2) out sound refl h)
@@ -158,7 +158,7 @@ relaid count old new first f p (x ∷ xs) place out sound h some near local = el
   outside : (count : ℕ) (x : Run) (xs : List Run) → AreSound count (x ∷ xs) → Outside (descriptor x.first) xs
   outside count x xs sound page c e = let same = descriptor-injective page x.first e in elim (covers-apart x xs page sound.2 c) [ inl l ↦ omega (arith, l, same) | inr g ↦ omega (arith, g, same, sound.0) ]
 
-  there : (count : ℕ) (old new : List ℕ) (first : ℕ) (f : Run → List Run → List Run) (p : ℕ) (x : Run) (xs : List Run) → IsPlace p → Outside p (x ∷ xs) → AreSound count (x ∷ xs) → LaysFrom old p (x ∷ xs) → x.first ≢ first → 0 < pages_from first xs → Near old new first (pages_from first xs) (prev_at old (descriptor first)) (next_at old (descriptor first)) → LaysFrom new (descriptor x.first) (change first f xs) → LaysFrom new p (x ∷ change first f xs)
+  there : (count : ℕ) (old new : List ℕ) (first : ℕ) (f : Run → List Run → List Run) (p : ℕ) (x : Run) (xs : List Run) → IsDescriptorOffset p → Outside p (x ∷ xs) → AreSound count (x ∷ xs) → LaysFrom old p (x ∷ xs) → x.first ≢ first → 0 < pages_from first xs → Near old new first (pages_from first xs) (prev_at old (descriptor first)) (next_at old (descriptor first)) → LaysFrom new (descriptor x.first) (change first f xs) → LaysFrom new p (x ∷ change first f xs)
   there count old new first f p x xs place out sound h ne some near rest =
       let some_x : 0 < x.pages = sound.0 in
       let a = prev_at old (descriptor first) in

@@ -11,7 +11,7 @@ use Rattle.slab_model.specs.Geometry.{pages_of, most_pages, start_of, IsInLimits
 use Rattle.slab_model.specs.Runs.{page_total}
 use Rattle.slab_model.specs.State.{no_stat}
 use Rattle.slab_pages.specs.Places.{free_head, pfree_word, descriptor, is_list_word, is_run_word, descriptor_word, descriptor_page, free_word, head_word, stat_word, byte_of, class_head, min_size_word, min_shift_word, pages_word, last_word, stats_word, start_word, end_word, mutex_word, log_ctx_word, data_word, lock_word, wait_word, zero_word, log_nomem_word, addr_word}
-use Rattle.slab_pages.specs.Steps.{LaysList, IsCleared, Relists}
+use Rattle.slab_pages.specs.RunSteps.{LaysList, IsCleared, Relists}
 use Rattle.slab_pages.specs.SlabLayout.{LaysClass, LaysStat, IsOpened}
 use Rattle.slab_pages.specs.Opening.{all_below, put_all, WritesHeads, IsPrepared}
 use Rattle.slab_pages.proofs.PlaceLemmas.{descriptor-word}
@@ -56,9 +56,6 @@ get-zeros (suc n) zero x = refl
 get-zeros (suc n) (suc i) x = get-zeros n i x
 
 -- one more head is written
-pub heads_none : (words : List ℕ) → WritesHeads words words 0
-heads_none words = record { same_length = refl; heads = λ class low. absurd (omega (arith, low)); others = λ w far. refl }
-
 pub heads_more : (old mid new : List ℕ) (count : ℕ) → WritesHeads old mid count → head_word count + 1 < length mid → new ≡ set mid (head_word count + 1) (class_head count) → WritesHeads old new (count + 1)
 heads_more old mid new count h room is = record {
   same_length = length-written mid new (head_word count + 1) (class_head count) is ∙ h.same_length;

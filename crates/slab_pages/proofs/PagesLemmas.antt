@@ -8,7 +8,7 @@ use Rattle.slab_model.specs.Runs.{page_total, take_run, give_run}
 use Rattle.slab_model.proofs.RunLemmas.{page_total-give}
 use Rattle.slab_pages.specs.Places.{Image, free_head, pfree_word, descriptor, slab_at, is_list_word, is_run_word, page_limit, descriptor_word, free_word}
 use Rattle.slab_pages.specs.Layout.{LaysFrom, LaysRuns, MaySet, MayPut, CanComeBack}
-use Rattle.slab_pages.specs.Steps.{LaysList, TakesRun, GivesRun}
+use Rattle.slab_pages.specs.RunSteps.{LaysList, TakesRun, GivesRun}
 use Rattle.slab_pages.proofs.PlaceLemmas.{descriptor-head, descriptor-injective}
 use Rattle.slab_pages.proofs.WriteLemmas.{get-written, length-written}
 use Rattle.slab_pages.proofs.UnlinkLemmas.{LaysList-kept, beyond_run}

@@ -2,8 +2,8 @@
 use Rattle.std.proofs.Common.{ℕ, ◌≡◌, ◌≢◌, ◌⊎◌, ◌+◌, ◌/◌, ◌≤◌, List, sym, ap, subst, ◌∙◌, refl, arith, inl, inr}
 use Rattle.std.proofs.lemmas.Bool.{cases_lt, cases_eq}
 use Rattle.slab_pages.specs.Frames.{SameWords}
-use Rattle.slab_pages.specs.Steps.{SetsWords}
-use Rattle.slab_pages.specs.Places.{free_head, descriptor, slab_at, next_at, prev_at, HasWords, IsPlace, Links, descriptor_word}
+use Rattle.slab_pages.specs.RunSteps.{Links, SetsWords}
+use Rattle.slab_pages.specs.Places.{free_head, descriptor, slab_at, next_at, prev_at, HasWords, IsDescriptorOffset, descriptor_word}
 
 pub descriptor-word : (page : ℕ) → descriptor page / 8 ≡ descriptor_word page
 unfolding descriptor
@@ -25,7 +25,7 @@ pub descriptor-other : (m n : ℕ) → m ≢ n → descriptor m ≢ descriptor n
 descriptor-other m n ne e = ne (descriptor-injective m n e)
 
 -- two places have three words each
-pub places_apart : (x y : ℕ) → IsPlace x → IsPlace y → x ≢ y → (x / 8 + 3 ≤ y / 8) ⊎ (y / 8 + 3 ≤ x / 8)
+pub places_apart : (x y : ℕ) → IsDescriptorOffset x → IsDescriptorOffset y → x ≢ y → (x / 8 + 3 ≤ y / 8) ⊎ (y / 8 + 3 ≤ x / 8)
 places_apart x y px py ne = elim px [
   | inl ex ↦ elim py [
     | inl ey ↦ absurd (ne (ex ∙ sym ey))
@@ -51,51 +51,51 @@ pub SameWords-then : (a b c : List ℕ) (o : ℕ) → SameWords a b o → SameWo
 SameWords-then a b c o first second = record { slab = second.slab ∙ first.slab; next = second.next ∙ first.next; prev = second.prev ∙ first.prev }
 
 -- a new link changes one next and one prev
-pub Links-slab : (old new : List ℕ) (a b x : ℕ) → IsPlace a → IsPlace b → IsPlace x → Links old new a b → slab_at new x ≡ slab_at old x
+pub Links-slab : (old new : List ℕ) (a b x : ℕ) → IsDescriptorOffset a → IsDescriptorOffset b → IsDescriptorOffset x → Links old new a b → slab_at new x ≡ slab_at old x
 Links-slab old new a b x pa pb px h = h.others (x / 8) (λ e. one_of x a px pa e) (λ e. two_of x b px pb e) where
-  one_of : (x a : ℕ) → IsPlace x → IsPlace a → x / 8 ≢ a / 8 + 1
+  one_of : (x a : ℕ) → IsDescriptorOffset x → IsDescriptorOffset a → x / 8 ≢ a / 8 + 1
   one_of x a px pa e = elim (cases_eq x a) [
     | inl same ↦ let w = ap (λ o. o / 8) same in omega (arith, w, e)
     | inr ne ↦ let apart = places_apart x a px pa ne in elim apart [ inl l ↦ omega (arith, l, e) | inr g ↦ omega (arith, g, e) ]
   ]
 
-  two_of : (x a : ℕ) → IsPlace x → IsPlace a → x / 8 ≢ a / 8 + 2
+  two_of : (x a : ℕ) → IsDescriptorOffset x → IsDescriptorOffset a → x / 8 ≢ a / 8 + 2
   two_of x a px pa e = elim (cases_eq x a) [
     | inl same ↦ let w = ap (λ o. o / 8) same in omega (arith, w, e)
     | inr ne ↦ let apart = places_apart x a px pa ne in elim apart [ inl l ↦ omega (arith, l, e) | inr g ↦ omega (arith, g, e) ]
   ]
 
-pub Links-next : (old new : List ℕ) (a b x : ℕ) → IsPlace a → IsPlace b → IsPlace x → x ≢ a → Links old new a b → next_at new x ≡ next_at old x
+pub Links-next : (old new : List ℕ) (a b x : ℕ) → IsDescriptorOffset a → IsDescriptorOffset b → IsDescriptorOffset x → x ≢ a → Links old new a b → next_at new x ≡ next_at old x
 Links-next old new a b x pa pb px ne h =
     h.others (x / 8 + 1)
     (λ e. let apart = places_apart x a px pa ne in elim apart [ inl l ↦ omega (arith, l, e) | inr g ↦ omega (arith, g, e) ])
     (λ e. one_two x b px pb e) where
-      one_two : (x a : ℕ) → IsPlace x → IsPlace a → x / 8 + 1 ≢ a / 8 + 2
+      one_two : (x a : ℕ) → IsDescriptorOffset x → IsDescriptorOffset a → x / 8 + 1 ≢ a / 8 + 2
       one_two x a px pa e = elim (cases_eq x a) [
         | inl same ↦ let w = ap (λ o. o / 8) same in omega (arith, w, e)
         | inr ne ↦ let apart = places_apart x a px pa ne in elim apart [ inl l ↦ omega (arith, l, e) | inr g ↦ omega (arith, g, e) ]
       ]
 
-pub Links-prev : (old new : List ℕ) (a b x : ℕ) → IsPlace a → IsPlace b → IsPlace x → x ≢ b → Links old new a b → prev_at new x ≡ prev_at old x
+pub Links-prev : (old new : List ℕ) (a b x : ℕ) → IsDescriptorOffset a → IsDescriptorOffset b → IsDescriptorOffset x → x ≢ b → Links old new a b → prev_at new x ≡ prev_at old x
 Links-prev old new a b x pa pb px ne h =
     h.others (x / 8 + 2)
     (λ e. two_one x a px pa e)
     (λ e. let apart = places_apart x b px pb ne in elim apart [ inl l ↦ omega (arith, l, e) | inr g ↦ omega (arith, g, e) ]) where
-      two_one : (x a : ℕ) → IsPlace x → IsPlace a → x / 8 + 2 ≢ a / 8 + 1
+      two_one : (x a : ℕ) → IsDescriptorOffset x → IsDescriptorOffset a → x / 8 + 2 ≢ a / 8 + 1
       two_one x a px pa e = elim (cases_eq x a) [
         | inl same ↦ let w = ap (λ o. o / 8) same in omega (arith, w, e)
         | inr ne ↦ let apart = places_apart x a px pa ne in elim apart [ inl l ↦ omega (arith, l, e) | inr g ↦ omega (arith, g, e) ]
       ]
 
 -- the head keeps its prev
-pub Links-prev_head : (old new : List ℕ) (a b : ℕ) → IsPlace a → IsPlace b → Links old new a b → prev_at new free_head ≡ prev_at old free_head
+pub Links-prev_head : (old new : List ℕ) (a b : ℕ) → IsDescriptorOffset a → IsDescriptorOffset b → Links old new a b → prev_at new free_head ≡ prev_at old free_head
 Links-prev_head old new a b pa pb h = elim (cases_eq b free_head) [
   | inl e ↦ subst (λ (o : ℕ). prev_at new o ≡ prev_at old o) e (h.head e)
   | inr ne ↦ Links-prev old new a b free_head pa pb (inl refl) (λ e. ne (sym e)) h
 ]
 
 -- a written descriptor leaves the others
-pub SetsWords-other : (old new : List ℕ) (o slab next prev x : ℕ) → IsPlace o → IsPlace x → x ≢ o → SetsWords old new o slab next prev → SameWords old new x
+pub SetsWords-other : (old new : List ℕ) (o slab next prev x : ℕ) → IsDescriptorOffset o → IsDescriptorOffset x → x ≢ o → SetsWords old new o slab next prev → SameWords old new x
 SetsWords-other old new o slab next prev x po px ne h =
     let apart = places_apart x o px po ne in
     record {

@@ -1,6 +1,5 @@
 -- The words tell the whole slab.
-use Rattle.std.proofs.Common.{ℕ, ◌≡◌, ◌≢◌, ◌⊎◌, ◌+◌, ◌-◌, ◌/◌, ◌%◌, ◌^◌, ◌<◌, ◌≤◌, Bool, true, false, not, ◌&&◌, ◌||◌, eqb, leb, List, [], ◌∷◌, length, get_or, refl, sym, ap, subst, arith, inl, inr, ◌∙◌}
-use Rattle.std.specs.Prelude.{◌↔◌, IsBitSet}
+use Rattle.std.proofs.Common.{ℕ, ◌≡◌, ◌≢◌, ◌+◌, ◌-◌, ◌%◌, ◌^◌, ◌<◌, ◌≤◌, Bool, true, false, not, ◌&&◌, ◌||◌, eqb, leb, List, [], ◌∷◌, refl, sym, ap, subst, arith, inl, inr, ◌∙◌}
 use Rattle.std.proofs.lemmas.Bool.{agree_below_at}
 use Rattle.std.proofs.lemmas.List.{ext_get_or}
 use Rattle.std.proofs.lemmas.Grind.{common_steps}
@@ -11,14 +10,13 @@ use Rattle.slab_model.specs.declared.stat.Stat.{Stat}
 use Rattle.slab_model.specs.declared.page.PageState.{PageState}
 use Rattle.slab_model.specs.declared.page.PageState.TheVariants.{Free, First, Later, Class}
 use Rattle.slab_model.specs.Geometry.{Kind, small, exact, big, kind_of, class_count, class_size, blocks_in_page, first_index, pages_of}
-use Rattle.slab_model.specs.Numbers.{AscendsFrom}
 use Rattle.slab_model.specs.Runs.{is_covered}
-use Rattle.slab_model.specs.State.{Slab, classes_in, pages_in, page_at, list_of, stat_of, no_stat}
+use Rattle.slab_model.specs.State.{Slab, page_at, list_of, stat_of, no_stat}
 use Rattle.slab_model.specs.Counting.{is_free}
 use Rattle.slab_model.specs.Soundness.{IsSound, AreUsed}
 use Rattle.slab_model.proofs.ClassLemmas.{zone}
 use Rattle.slab_model.proofs.NumberLemmas.{In-from, ascending_same}
-use Rattle.slab_pages.specs.Places.{Image, class_head, descriptor, slab_at, next_at, prev_at, HasWords}
+use Rattle.slab_pages.specs.Places.{head_count, class_head, descriptor, prev_at, HasWords}
 use Rattle.slab_pages.specs.SlabLayout.{LaysStat, LaysPages, LaysBits, LaysSlab, type_of}
 use Rattle.slab_pages.proofs.PlaceLemmas.{descriptor-injective}
 use Rattle.slab_pages.proofs.PagesLemmas.{runs-unique}
@@ -27,12 +25,12 @@ use Rattle.slab_pages.proofs.ComeBackLemmas.{class-type, classed}
 -- ---- lists and statistics
 
 -- the head of a list is no descriptor
-head_other : (class page : ℕ) → class < 9 → class_head class ≢ descriptor page
+head_other : (class page : ℕ) → class < head_count → class_head class ≢ descriptor page
 unfolding descriptor
 head_other class page known e = omega (arith, known, e)
 
 -- the links tell a class's list
-pages-unique : (words : List ℕ) (shape : Shape) (class o : ℕ) (xs ys : List ℕ) → class < 9 → LaysPages words shape class o xs → LaysPages words shape class o ys → xs ≡ ys
+pages-unique : (words : List ℕ) (shape : Shape) (class o : ℕ) (xs ys : List ℕ) → class < head_count → LaysPages words shape class o xs → LaysPages words shape class o ys → xs ≡ ys
 pages-unique words shape class o [] [] known h k = refl
 pages-unique words shape class o [] (y ∷ ys) known h k = absurd (head_other class y known (sym h ∙ k.0))
 pages-unique words shape class o (x ∷ xs) [] known h k = absurd (head_other class x known (sym k ∙ h.0))

@@ -4,10 +4,10 @@ use Rattle.std.proofs.lemmas.Grind.{common_steps}
 use Rattle.std.proofs.lemmas.Bool.{cases_eq, cases_lt}
 use Rattle.slab_model.specs.declared.runs.Run.{Run}
 use Rattle.slab_model.specs.Runs.{IsRunApart, AreSound, is_covered, pages_from}
-use Rattle.slab_pages.specs.Places.{free_head, pfree_word, descriptor, slab_at, next_at, prev_at, HasWords, IsPlace, Links, KeepsOthers, is_list_word, is_run_word, descriptor_word, descriptor_page, free_word}
+use Rattle.slab_pages.specs.Places.{free_head, pfree_word, descriptor, slab_at, next_at, prev_at, HasWords, IsDescriptorOffset, KeepsOthers, is_list_word, is_run_word, descriptor_word, descriptor_page, free_word}
 use Rattle.slab_pages.specs.Layout.{HasTail, LaysFrom}
 use Rattle.slab_pages.specs.Frames.{SameWords}
-use Rattle.slab_pages.specs.Steps.{SetsWords, LaysList, Unlinks, Detaches, without_run}
+use Rattle.slab_pages.specs.RunSteps.{Links, SetsWords, LaysList, Unlinks, Detaches, without_run}
 use Rattle.slab_pages.proofs.PlaceLemmas.{descriptor-word, descriptor-head, descriptor-injective, descriptor-other, HasWords-kept, SameWords-then, SetsWords-other, Links-slab, Links-next, Links-prev, Links-prev_head}
 use Rattle.slab_pages.proofs.ListLemmas.{pages_from-here, pages_from-there, pages_from-covers, pages_from-beyond, pages_from-inside, LaysFrom-kept, covered-rest, covers-apart, Near, prev_in, next_in, relink, relaid}
 
@@ -60,7 +60,7 @@ beyond_run runs page w c h = elim (cases_lt w (descriptor page / 8)) [
 abbrev pub IsNode : ℕ → List Run → Type 0
 IsNode o runs = (o ≡ free_head) ⊎ ((page : ℕ) × (o ≡ descriptor page) × (is_covered page runs ≡ true))
 
-pub node_place : (o : ℕ) (runs : List Run) → IsNode o runs → IsPlace o
+pub node_place : (o : ℕ) (runs : List Run) → IsNode o runs → IsDescriptorOffset o
 node_place o runs h = elim h [ inl e ↦ inl e | inr m ↦ inr (m.0, m.1) ]
 
 -- a word that isn't one of the list's is none of a node's links
@@ -81,9 +81,9 @@ node_prev o runs w node list run e = elim node [
   head w list e = grind (arith, common_steps)
 
 -- the count of free pages is no link
-pub links_free : (old new : List ℕ) (a b : ℕ) → IsPlace a → IsPlace b → Links old new a b → get_or new pfree_word 0 ≡ get_or old pfree_word 0
+pub links_free : (old new : List ℕ) (a b : ℕ) → IsDescriptorOffset a → IsDescriptorOffset b → Links old new a b → get_or new pfree_word 0 ≡ get_or old pfree_word 0
 links_free old new a b pa pb h = h.others pfree_word (λ e. away 1 a pa (omega arith) (omega arith) e) (λ e. away 2 b pb (omega arith) (omega arith) e) where
-  away : (j o : ℕ) → IsPlace o → 1 ≤ j → j ≤ 2 → pfree_word ≡ o / 8 + j → ⊥
+  away : (j o : ℕ) → IsDescriptorOffset o → 1 ≤ j → j ≤ 2 → pfree_word ≡ o / 8 + j → ⊥
   away j o place low high e = elim place [
     | inl at ↦ let w = ap (λ x. x / 8) at in omega (arith, e, w, low, high)
     | inr m ↦ let w = ap (λ x. x / 8) m.1 ∙ descriptor-word m.0 in omega (arith, e, w)

@@ -6,7 +6,7 @@ use Rattle.slab_model.specs.declared.runs.Run.{Run}
 use Rattle.slab_model.specs.Runs.{AreSound, first_fit, is_covered, is_within}
 use Rattle.slab_pages.specs.Places.{free_head, descriptor, slab_at, next_at}
 use Rattle.slab_pages.specs.Layout.{LaysFrom}
-use Rattle.slab_pages.specs.Steps.{LaysList, IsClearOfFree}
+use Rattle.slab_pages.specs.RunSteps.{LaysList, IsClearOfFree}
 use Rattle.slab_model.proofs.RunLemmas.{is_within-parts}
 use Rattle.slab_pages.proofs.ListLemmas.{covered-first}
 use Rattle.slab_pages.proofs.PlaceLemmas.{descriptor-head}

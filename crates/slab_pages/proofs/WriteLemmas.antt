@@ -3,8 +3,8 @@ use Rattle.std.proofs.Common.{ℕ, ◌≡◌, ◌≢◌, ◌+◌, ◌-◌, ◌/�
 use Rattle.std.proofs.lemmas.List.{length-set}
 use Rattle.std.proofs.lemmas.Bool.{cases_eq}
 use Rattle.slab_model.specs.declared.runs.Run.{Run}
-use Rattle.slab_pages.specs.Places.{free_head, descriptor, HasWords, IsPlace, Links, descriptor_word}
-use Rattle.slab_pages.specs.Steps.{SetsWords, FillsRun, BeginsRun}
+use Rattle.slab_pages.specs.Places.{free_head, descriptor, HasWords, IsDescriptorOffset, descriptor_word}
+use Rattle.slab_pages.specs.RunSteps.{Links, SetsWords, FillsRun, BeginsRun}
 use Rattle.slab_pages.proofs.PlaceLemmas.{descriptor-word, descriptor-other, places_apart, HasWords-kept, SetsWords-other}
 
 -- a word that isn't written stays
@@ -18,7 +18,7 @@ get-read old new i v e h = ap (λ ws. get_or ws i 0) e ∙ get_or-set_same old i
 pub length-written : (old new : List ℕ) (i v : ℕ) → new ≡ set old i v → length new ≡ length old
 length-written old new i v e = ap (λ ws. length ws) e ∙ length-set old i v
 
-pub link_to_head : (old new : List ℕ) (a b : ℕ) → a / 8 + 1 < length old → b ≡ free_head → IsPlace a → new ≡ set old (a / 8 + 1) b → Links old new a b
+pub link_to_head : (old new : List ℕ) (a b : ℕ) → a / 8 + 1 < length old → b ≡ free_head → IsDescriptorOffset a → new ≡ set old (a / 8 + 1) b → Links old new a b
 link_to_head old new a b fits e pa is = record {
   same_length = length-written old new (a / 8 + 1) b is;
   next = get-read old new (a / 8 + 1) b is fits;
@@ -26,13 +26,13 @@ link_to_head old new a b fits e pa is = record {
   head = λ h. get-written old new (a / 8 + 1) b (b / 8 + 2) is (apart a b pa (inl e));
   others = λ w n1 n2. get-written old new (a / 8 + 1) b w is n1;
 } where
-  apart : (a b : ℕ) → IsPlace a → IsPlace b → b / 8 + 2 ≢ a / 8 + 1
+  apart : (a b : ℕ) → IsDescriptorOffset a → IsDescriptorOffset b → b / 8 + 2 ≢ a / 8 + 1
   apart a b pa pb e = elim (cases_eq b a) [
     | inl same ↦ let w = ap (λ o. o / 8) same in omega (arith, w, e)
     | inr ne ↦ elim (places_apart b a pb pa ne) [ inl l ↦ omega (arith, l, e) | inr g ↦ omega (arith, g, e) ]
   ]
 
-pub link_to_page : (old mid new : List ℕ) (a b : ℕ) → a / 8 + 1 < length old → b / 8 + 2 < length old → b ≢ free_head → IsPlace a → IsPlace b → mid ≡ set old (a / 8 + 1) b → new ≡ set mid (b / 8 + 2) a → Links old new a b
+pub link_to_page : (old mid new : List ℕ) (a b : ℕ) → a / 8 + 1 < length old → b / 8 + 2 < length old → b ≢ free_head → IsDescriptorOffset a → IsDescriptorOffset b → mid ≡ set old (a / 8 + 1) b → new ≡ set mid (b / 8 + 2) a → Links old new a b
 link_to_page old mid new a b fits fits2 nh pa pb is is2 = record {
   same_length = length-written mid new (b / 8 + 2) a is2 ∙ length-written old mid (a / 8 + 1) b is;
   next = get-written mid new (b / 8 + 2) a (a / 8 + 1) is2 (λ e. apart a b pa pb (sym e)) ∙ get-read old mid (a / 8 + 1) b is fits;
@@ -40,16 +40,13 @@ link_to_page old mid new a b fits fits2 nh pa pb is is2 = record {
   head = λ e. absurd (nh e);
   others = λ w n1 n2. get-written mid new (b / 8 + 2) a w is2 n2 ∙ get-written old mid (a / 8 + 1) b w is n1;
 } where
-  apart : (a b : ℕ) → IsPlace a → IsPlace b → b / 8 + 2 ≢ a / 8 + 1
+  apart : (a b : ℕ) → IsDescriptorOffset a → IsDescriptorOffset b → b / 8 + 2 ≢ a / 8 + 1
   apart a b pa pb e = elim (cases_eq b a) [
     | inl same ↦ let w = ap (λ o. o / 8) same in omega (arith, w, e)
     | inr ne ↦ elim (places_apart b a pb pa ne) [ inl l ↦ omega (arith, l, e) | inr g ↦ omega (arith, g, e) ]
   ]
 
 -- one more descriptor is filled
-pub fills_none : (words : List ℕ) (first slab : ℕ) → FillsRun words words first 0 slab
-fills_none words first slab = record { same_length = refl; filled = λ page low high. absurd (omega (arith, low, high)); others = λ w far. refl }
-
 pub fills_more : (old mid new : List ℕ) (first count slab page : ℕ) → page ≡ first + count → FillsRun old mid first count slab → SetsWords mid new (descriptor page) slab 0 0 → FillsRun old new first (count + 1) slab
 fills_more old mid new first count slab page at filled sets = record {
   same_length = sets.same_length ∙ filled.same_length;

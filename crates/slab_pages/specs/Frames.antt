@@ -3,7 +3,7 @@ use Rattle.std.specs.Prelude.{ℕ, ◌≡◌, ◌≢◌, ◌⊎◌, ◌+◌, ◌
 use Rattle.slab_model.specs.declared.page.PageState.TheVariants.{Class}
 use Rattle.slab_model.specs.Geometry.{kind_of, small}
 use Rattle.slab_model.specs.State.{Slab, page_at, pages_in}
-use Rattle.slab_pages.specs.Places.{log_ctx_word, data_word, head_word, stat_word, descriptor_word, page_word, bitmap_words, slab_at, next_at, prev_at}
+use Rattle.slab_pages.specs.Places.{log_ctx_word, data_word, stat_word, descriptor_word, page_word, bitmap_words, slab_at, next_at, prev_at}
 
 -- the words from `low` up to `high` are as before
 abbrev pub SameFrom : List ℕ → List ℕ → ℕ → ℕ → Type 0
@@ -28,10 +28,6 @@ pub record ChangesFrom (old new : List ℕ) (low high : ℕ) : Type 0 where
 -- only the descriptor of this page changed
 abbrev pub ChangesDescriptor : List ℕ → List ℕ → ℕ → Type 0
 ChangesDescriptor old new page = ChangesFrom old new (descriptor_word page) (descriptor_word page + 3)
-
--- only the head of this class's list changed
-abbrev pub ChangesHead : List ℕ → List ℕ → ℕ → Type 0
-ChangesHead old new class = ChangesFrom old new (head_word class) (head_word class + 3)
 
 -- only the statistics of this class changed
 abbrev pub ChangesStat : List ℕ → List ℕ → ℕ → Type 0

@@ -1,11 +1,13 @@
+pub use Rattle.zone_region.specs.Members
 pub use Rattle.slab_model.specs.Geometry
 pub use Rattle.slab_model.specs.Runs
 pub use Rattle.slab_model.specs.State
+pub use Rattle.slab_model.specs.Blocks
 pub use Rattle.slab_model.specs.Soundness
 pub mod Shapes
 pub mod Places
 pub mod Layout
 pub mod Frames
-pub mod Steps
+pub mod RunSteps
 pub mod SlabLayout
 pub mod Opening

@@ -1,5 +1,5 @@
 -- Where the words of a zone stand, by the names of `ngx_slab_pool_t`, `ngx_slab_stat_t` and `ngx_slab_page_t`. A place is the number of a word; links hold byte offsets.
-use Rattle.std.specs.Prelude.{ℕ, ◌≡◌, ◌≢◌, ◌⊎◌, length, ◌+◌, ◌*◌, ◌-◌, ◌/◌, Bool, false, ◌&&◌, ◌||◌, nat_le, nat_eq, List, slice_index}
+use Rattle.std.specs.Prelude.{ℕ, ◌≡◌, ◌⊎◌, length, ◌+◌, ◌*◌, ◌-◌, ◌/◌, Bool, false, ◌&&◌, ◌||◌, nat_le, nat_eq, List, slice_index}
 use Rattle.slab_model.specs.declared.runs.Run.{Run}
 use Rattle.slab_model.specs.declared.shape.Shape.{Shape}
 use Rattle.slab_model.specs.Geometry.{blocks_in_page, greatest_zone, page_offset}
@@ -68,7 +68,7 @@ end_word = 12
 abbrev pub mutex_word : ℕ
 mutex_word = 13
 
--- the byte offset of what a zone logs beside a request that it refuses
+-- the byte offset of the block with the zone's name, or 0
 abbrev pub log_ctx_word : ℕ
 log_ctx_word = 20
 
@@ -79,7 +79,7 @@ zero_word = 21
 abbrev pub log_nomem_word : ℕ
 log_nomem_word = 22
 
--- the byte offset of what a zone keeps
+-- the byte offset of the block with the zone's context, or 0
 abbrev pub data_word : ℕ
 data_word = 23
 
@@ -87,7 +87,11 @@ data_word = 23
 abbrev pub addr_word : ℕ
 addr_word = 24
 
--- ---- behind the header, the heads and the statistics of the nine classes, and the descriptors
+-- ---- behind the header: the heads, the statistics and the descriptors
+
+-- the number of classes, each of which has a head and statistics
+abbrev pub head_count : ℕ
+head_count = 9
 
 -- the head of a class's list of pages, which is laid out like a descriptor
 abbrev pub head_word : ℕ → ℕ
@@ -95,11 +99,11 @@ head_word class = addr_word + 1 + 3 * class
 
 -- the first of the four words of a class's statistics: total, used, reqs and fails
 abbrev pub stat_word : ℕ → ℕ
-stat_word class = head_word 9 + 4 * class
+stat_word class = head_word head_count + 4 * class
 
 -- the first of the three words of a page's descriptor: slab, next and prev
 abbrev pub descriptor_word : ℕ → ℕ
-descriptor_word page = stat_word 9 + 3 * page
+descriptor_word page = stat_word head_count + 3 * page
 
 -- the page whose descriptor has this word
 abbrev pub descriptor_page : ℕ → ℕ
@@ -128,8 +132,8 @@ unfoldable pub descriptor : ℕ → ℕ
 descriptor page = byte_of (descriptor_word page)
 
 -- the offset of the head, or of a page's descriptor
-abbrev pub IsPlace : ℕ → Type 0
-IsPlace o = (o ≡ free_head) ⊎ ((page : ℕ) × (o ≡ descriptor page))
+abbrev pub IsDescriptorOffset : ℕ → Type 0
+IsDescriptorOffset o = (o ≡ free_head) ⊎ ((page : ℕ) × (o ≡ descriptor page))
 
 -- the three words of the descriptor at a byte offset
 abbrev pub slab_at : List ℕ → ℕ → ℕ
@@ -159,11 +163,3 @@ is_run_word runs w = nat_le (descriptor_word 0) w && is_covered (descriptor_page
 pub record KeepsOthers (runs : List Run) (old new : List ℕ) : Type 0 where
   pub same_length : length new ≡ length old
   pub others : (w : ℕ) → is_list_word w ≡ false → is_run_word runs w ≡ false → slice_index new w ≡ slice_index old w
-
--- the descriptor at `b` follows the one at `a` in a list, and the head has no word that points back
-pub record Links (old new : List ℕ) (a b : ℕ) : Type 0 where
-  pub same_length : length new ≡ length old
-  pub next : next_at new a ≡ b
-  pub prev : b ≢ free_head → prev_at new b ≡ a
-  pub head : b ≡ free_head → prev_at new b ≡ prev_at old b
-  pub others : (w : ℕ) → w ≢ a / 8 + 1 → w ≢ b / 8 + 2 → slice_index new w ≡ slice_index old w

@@ -3,7 +3,7 @@ ghost use Rattle.slab_model.specs.declared.runs.Run.{Run};
 ghost use Rattle.slab_model.specs.Runs.{is_covered, is_within};
 ghost use Rattle.slab_pages.specs.Places.{page_limit, descriptor_word};
 ghost use Rattle.slab_pages.specs.Layout.{IsBusy, CanComeBack};
-ghost use Rattle.slab_pages.specs.Steps.{IsClearOfFree, LaysList};
+ghost use Rattle.slab_pages.specs.RunSteps.{IsClearOfFree, LaysList};
 
 use crate::descriptors::{next, offset_of, page_of, prev, slab};
 use crate::places::FREE_HEAD;
@@ -65,7 +65,7 @@ pub(crate) fn is_settled(region: &Region, page: u64) -> bool
     ensures { (count : ℕ) (runs : List Run) → LaysList count region.now runs →
         (IsTrue result ↔ (is_covered page runs ≡ false → IsBusy region.now page)) }
 {
-    !is_apart(region, page, 1) || is_busy(region, page)
+    is_busy(region, page) || !is_apart(region, page, 1)
 }
 
 // The page before this one, if there is one, is settled.

@@ -1,23 +1,23 @@
 ghost use Rattle.std.specs.Prelude.{◌≡◌, ℕ, ◌+◌, ◌*◌, ◌-◌, ◌/◌, ◌<◌, ◌≤◌, length, slice_set};
 ghost use Rattle.slab_model.specs.declared.runs.Run.{Run};
-ghost use Rattle.slab_pages.specs.Places.{IsPlace, Links, page_limit, descriptor_word, descriptor, next_at, prev_at, slab_at};
-ghost use Rattle.slab_pages.specs.Steps.{FillsRun, SetsWords, BeginsRun};
+ghost use Rattle.slab_pages.specs.Places.{IsDescriptorOffset, page_limit, descriptor_word, descriptor, next_at, prev_at, slab_at};
+ghost use Rattle.slab_pages.specs.RunSteps.{Links, FillsRun, SetsWords, BeginsRun};
 
 use crate::places::{FREE_HEAD, byte_offset, descriptor_at};
 use zone_region::Region;
 
-// Byte offset of a page's descriptor.
+/// Byte offset of a page's descriptor, as links hold it.
 #[tactic(auto, unfolding(crate::specs::Places::descriptor))]
-pub(crate) fn offset_of(page: u64) -> u64
+pub fn offset_of(page: u64) -> u64
     requires { page ≤ page_limit }
     ensures { result ≡ descriptor page }
 {
     byte_offset(descriptor_at(page))
 }
 
-// The page whose descriptor is at this byte offset.
+/// The page whose descriptor is at byte offset `o`.
 #[tactic(auto, unfolding(crate::specs::Places::descriptor))]
-pub(crate) fn page_of(o: u64) -> u64
+pub fn page_of(o: u64) -> u64
     requires { ((page : ℕ) × (o ≡ descriptor page)) }
     ensures { (page : ℕ) → o ≡ descriptor page → result ≡ page }
 {
@@ -50,9 +50,9 @@ pub(crate) fn prev(region: &Region, o: u64) -> u64
 
 // Makes the descriptor at `b` follow the one at `a`. The head's own prev word stays.
 pub(crate) fn link(region: &mut Region, a: u64, b: u64)
-    requires a_is { IsPlace a }
+    requires a_is { IsDescriptorOffset a }
     requires a_in { a / 8 + 1 < length region.old }
-    requires b_is { IsPlace b }
+    requires b_is { IsDescriptorOffset b }
     requires b_in { b / 8 + 2 < length region.old }
     ensures { Links region.old region.new a b }
 {

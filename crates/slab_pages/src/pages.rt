@@ -26,7 +26,7 @@ pub struct Page {
 /// The words of a zone, with its free pages kept in runs, after `ngx_slab_alloc_pages` and
 /// `ngx_slab_free_pages`.
 ///
-/// Contracts see the zone's bytes and words. The words always lay out one sound list of free runs (`LaysRuns`),
+/// Contracts see the zone's shape and words. The words always lay out one sound list of free runs (`LaysRuns`),
 /// which each call reads and changes as a list.
 #[derive(Drop)]
 pub struct Pages {
@@ -96,7 +96,8 @@ impl Pages {
         self.region.load(w)
     }
 
-    /// Makes word `w` be `v`, and leaves every other word. It may not be one that the free runs are kept in.
+    /// Makes word `w` be `v`, and leaves every other word. No free run may be kept in it: it is none of the header
+    /// words of the page list, and none of the descriptor of a free page.
     pub fn set_word(&mut self, w: u64, v: u64)
         requires { MaySet self.old w }
         ensures set { self.new ≡ record { shape = self.old.shape; words = slice_set self.old.words w v } }
@@ -131,7 +132,7 @@ impl Pages {
     /// Whether the `n` pages from `p` on can be given back: there are such pages, none of them is free, and the
     /// descriptors beside them are those of a free run or of pages that aren't free.
     ///
-    /// It walks the list of free runs for each page.
+    /// It walks the list of free runs at most three times: for the pages, and for the page on each side of them.
     pub fn can_put(&self, p: Page, n: u64) -> bool
         ensures { IsTrue result ↔ MayPut self.now (record { first = p.number; pages = n }) }
     {

@@ -3,7 +3,7 @@ ghost use Rattle.slab_model.specs.declared.runs.Run.{Run};
 ghost use Rattle.slab_model.specs.Runs.{first_fit, give_run, is_covered, page_total, pages_before, pages_from, take_run};
 ghost use Rattle.slab_pages.specs.Places.{page_limit, descriptor_word, descriptor, next_at, pfree_word, prev_at};
 ghost use Rattle.slab_pages.specs.Layout.{CanComeBack};
-ghost use Rattle.slab_pages.specs.Steps.{Detaches, GivesRun, IsAfter, IsBefore, IsCleared, LaysList, MarksUsed, Relists, TakesRun, Unlinks, start_at};
+ghost use Rattle.slab_pages.specs.RunSteps.{Detaches, GivesRun, IsAfter, IsBefore, IsCleared, LaysList, MarksUsed, Relists, TakesRun, Unlinks, start_at};
 
 use crate::descriptors::{begin_run, fill, link, next, offset_of, page_of, prev, set_words, slab};
 use crate::places::{FREE_HEAD, PFREE_WORD};

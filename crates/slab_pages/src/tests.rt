@@ -1,5 +1,7 @@
-use crate::geometry::Geometry;
+use crate::geometry::{Geometry, TooSmall};
 use crate::pages::{Page, Pages};
+use crate::places::{byte_offset, descriptor_at, head_at, stat_at};
+use crate::{offset_of, page_of};
 use slab_model::PlainSlab;
 use std::alloc::Global;
 use std::process::Abort;
@@ -355,5 +357,22 @@ fn generated(rt: HostRuntime) -> Result<(), Fail> {
 #[test]
 fn generated_until_dry(rt: HostRuntime) -> Result<(), Fail> {
     assert!(rt; generated_steps(&rt, rt.alloc(), 32_768)? > 100);
+    Ok(())
+}
+
+/// Places by hand from the layout: the first and the last class, and page 7.
+#[test]
+fn places(rt: HostRuntime) {
+    for (class, head, stat) in [(0, 25, 52), (8, 49, 84)] {
+        assert_eq!(rt; (head_at(class), stat_at(class)), (head, stat));
+    }
+    assert_eq!(rt; (descriptor_at(7), byte_offset(109)), (109, 872));
+    assert_eq!(rt; (offset_of(7), page_of(offset_of(7))), (872, 7));
+}
+
+#[test]
+fn fault_text(rt: HostRuntime) -> Result<(), Fail> {
+    let text = format!(in rt.alloc(); "{TooSmall}")?;
+    assert_eq!(rt; text.as_str(), "the zone is smaller than 8 pages");
     Ok(())
 }

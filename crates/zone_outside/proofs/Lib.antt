@@ -2,3 +2,4 @@ pub mod Joins
 pub mod DigitLemmas
 pub mod RepeatedLemmas
 pub mod ShelfLemmas
+pub mod BufferLemmas

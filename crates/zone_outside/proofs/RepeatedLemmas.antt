@@ -1,6 +1,6 @@
 -- Lemmas on copies of a text.
 use Rattle.std.proofs.Common.{◌≡◌, ℕ, zero, suc, ◌-◌, ◌<◌, List, [], ◌++◌, refl, ap, ◌∙◌, arith}
-use Rattle.zone_outside.specs.Memory.{repeated}
+use Rattle.zone_outside.specs.MemSources.{repeated}
 
 -- no copy
 pub repeated-none : (n : ℕ) (xs : List ℕ) → n ≡ 0 → repeated n xs ≡ []

@@ -3,8 +3,8 @@ use Rattle.std.proofs.Common.{◌≡◌, ℕ, Bool, true, false, cond, nat_eq, L
 use Rattle.std.specs.List.{find}
 use Rattle.std.specs.Option.{option_copied, option_map}
 use Rattle.std.specs.Cmp.Lexicographic.{pointwise}
-use Rattle.zone_outside.specs.Shelves.{file_text, files_of}
-use Rattle.zone_outside.specs.declared.memory.MemFile.{MemFile}
+use Rattle.zone_outside.specs.MemShelves.{file_text, files_of}
+use Rattle.zone_outside.specs.declared.mem_shelf.MemFile.{MemFile}
 
 abbrev has_name : List ℕ → MemFile → Bool
 has_name name file = pointwise nat_eq file.name.now name

@@ -3,5 +3,7 @@ pub mod Faults
 pub mod Coded
 pub mod Decoding
 pub mod Numbers
-pub mod Memory
-pub mod Shelves
+pub mod MemSources
+pub mod MemSinks
+pub mod MemShelves
+pub mod Buffers

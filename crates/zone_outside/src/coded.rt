@@ -5,13 +5,16 @@ ghost use Rattle.zone_outside.specs.Decoding.{Decodes};
 ghost use Rattle.zone_outside.specs.declared.coded.DecodeFault.TheVariants.{NoMemory};
 
 use std::alloc::{AllocError, AllocFailed, Global};
+use thiserror::Error;
 
 /// Why coded text gives no bytes.
-#[derive(Clone, Copy, Debug, PartialEq, Eq)]
+#[derive(Clone, Copy, Debug, PartialEq, Eq, Error)]
 pub enum DecodeFault {
     /// It isn't coded text.
+    #[error("the text is not coded as it should be")]
     Badly,
     /// There was no memory for the bytes.
+    #[error("no memory for the bytes")]
     NoMemory,
 }
 

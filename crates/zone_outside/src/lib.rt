@@ -2,19 +2,25 @@
 //! devices that give and take them.
 #![tactic(auto)]
 
-pub mod coded;
-pub mod devices;
-pub mod errors;
-pub mod memory;
-pub mod numbers;
-pub mod system;
-pub mod text;
-pub mod transfer;
+mod buffered;
+mod coded;
+mod devices;
+mod errors;
+mod mem_shelf;
+mod mem_sink;
+mod mem_source;
+mod numbers;
+mod system;
+mod text;
+mod transfer;
 
+pub use buffered::BufferedSink;
 pub use coded::{DecodeFault, decode};
 pub use devices::{Shelf, Sink, Source};
 pub use errors::{Failed, NoMemory};
-pub use memory::{MemFile, MemShelf, MemSink, MemSource, MemText};
+pub use mem_shelf::{MemFile, MemShelf};
+pub use mem_sink::MemSink;
+pub use mem_source::{MemSource, MemText};
 pub use numbers::read_number;
 pub use system::{FileShelf, FileSource, StdSink};
 pub use text::Text;

@@ -84,7 +84,8 @@ impl<F: Read> Source for FileSource<F> {
     }
 }
 
-/// Standard output or standard error. It keeps no bytes back, and doesn't tell what it took.
+/// Standard output or standard error. It keeps no bytes back, and doesn't tell what it took. A
+/// `BufferedSink` over it spares a call of the system for each line.
 #[derive(Drop)]
 pub struct StdSink<P> {
     to: P,

@@ -1,6 +1,9 @@
+use crate::buffered::BufferedSink;
 use crate::coded::{DecodeFault, decode};
 use crate::devices::Shelf;
-use crate::memory::{MemFile, MemShelf, MemSink, MemSource, MemText};
+use crate::mem_shelf::{MemFile, MemShelf};
+use crate::mem_sink::MemSink;
+use crate::mem_source::{MemSource, MemText};
 use crate::numbers::read_number;
 use crate::system::{FileShelf, StdSink};
 use crate::text::Text;
@@ -95,6 +98,29 @@ fn writes_whole_pieces(rt: HostRuntime) {
         assert_eq!(rt; write_all(&mut sink, piece), want);
         assert_eq!(rt; sink.bytes(), taken);
     }
+}
+
+// 65,536 bytes are kept. A piece more hands them on, and a write of them that fails loses none.
+#[test]
+fn gathers_writes(rt: HostRuntime) -> Result<(), Fail> {
+    let rows: [&[u64]; 3] = [&[], &[1], &[2]];
+    for failing in rows {
+        let mut sink = BufferedSink::of(rt.alloc(), MemSink::of(rt.alloc(), 65_535, failing))?;
+        for _ in 0..4096 {
+            assert_eq!(rt; write_all(&mut sink, b"0123456789abcdef"), Ok(()));
+        }
+        assert_eq!(rt; sink.behind().bytes().len(), 0);
+        let first = write_all(&mut sink, b"more");
+        assert_eq!(rt; first.is_ok(), failing.is_empty());
+        if first.is_err() {
+            assert_eq!(rt; write_all(&mut sink, b"more"), Ok(()));
+        }
+        assert_eq!(rt; sink.behind().bytes().len(), 65_536);
+        assert_eq!(rt; sink.flush(), Ok(()));
+        assert!(rt; sink.behind().bytes().ends_with(b"0123456789abcdefmore"));
+        assert_eq!(rt; sink.behind().bytes().len(), 65_540);
+    }
+    Ok(())
 }
 
 #[test]

@@ -7,20 +7,25 @@ use crate::devices::{Shelf, Sink, Source};
 use crate::errors::Failed;
 use crate::text::Text;
 use std::alloc::{AllocError, Global};
+use thiserror::Error;
 
 /// Why a text was not read.
-#[derive(Clone, Copy, Debug, PartialEq, Eq)]
+#[derive(Clone, Copy, Debug, PartialEq, Eq, Error)]
 pub enum ReadAnswer {
     /// A read failed.
+    #[error("the text could not be read")]
     Fault,
     /// The text is longer than the limit.
+    #[error("the text is longer than the limit")]
     TooLong,
     /// There was no memory for the text.
+    #[error("no memory for the text")]
     NoMemory,
 }
 
 /// A write failed. A proper prefix of the piece was taken.
-#[derive(Clone, Copy, Debug, PartialEq, Eq)]
+#[derive(Clone, Copy, Debug, PartialEq, Eq, Error)]
+#[error("a write failed")]
 pub struct WriteFault;
 
 impl From<AllocError> for ReadAnswer {

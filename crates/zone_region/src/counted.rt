@@ -35,7 +35,7 @@ impl CountedBlocks {
 }
 
 impl Blocks for CountedBlocks {
-    ghost words = { λ s. words_in s.blocks.entries.items };
+    ghost words = { λ s. words_in s.blocks.entries };
 
     ghost rest = { λ _. [] };
 

@@ -1,4 +1,5 @@
 ghost use Rattle.std.specs.Prelude.{[], ◌∷◌, ◌≡◌, ◌+◌, ◌<◌, ◌^◌, OnOk, OnErr};
+ghost use Rattle.std.specs.HashMap.{IsUnchanged};
 ghost use Rattle.zone_region.specs.Entries.{words_in, AddsBlock};
 
 use crate::blocks::{Block, Blocks};
@@ -24,10 +25,10 @@ impl TalliedBlocks {
     /// it, and then nothing changes.
     pub fn add(&mut self, alloc: Global, b: Block, words: u64) -> Result<(), NoMemory>
         requires { self.old.added + 1 < 2 ^ 64 }
-        ensures block { let old = words_in self.old.blocks.entries.items in
-            OnOk result (AddsBlock old (words_in self.new.blocks.entries.items) b.at words) }
+        ensures block { let old = words_in self.old.blocks.entries in
+            OnOk result (AddsBlock old (words_in self.new.blocks.entries) b.at words) }
         ensures tally { OnOk result (self.new.added ≡ self.old.added + 1) }
-        ensures err { OnErr result (self.new.blocks.entries.items ≡ self.old.blocks.entries.items) }
+        ensures err { OnErr result (IsUnchanged self.old.blocks.entries self.new.blocks.entries) }
         ensures kept { OnErr result (self.new.added ≡ self.old.added) }
     {
         self.blocks.add(alloc, b, words)?;
@@ -37,7 +38,7 @@ impl TalliedBlocks {
 }
 
 impl Blocks for TalliedBlocks {
-    ghost words = { λ s. words_in s.blocks.entries.items };
+    ghost words = { λ s. words_in s.blocks.entries };
 
     ghost rest = { λ s. s.added ∷ [] };
 

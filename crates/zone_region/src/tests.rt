@@ -1,11 +1,6 @@
 ghost use Rattle.std.specs.Prelude.{◌≡◌, ◌<◌};
 
-use crate::blocks::{Block, Blocks, read};
-use crate::counted::CountedBlocks;
-use crate::memory::MemBlocks;
-use crate::region::Region;
-use crate::steps::Steps;
-use crate::tallied::TalliedBlocks;
+use crate::{Block, Blocks, CountedBlocks, MemBlocks, Region, Steps, TalliedBlocks, read};
 use std::alloc::Global;
 use std::marker::Brand;
 use std::process::Abort;

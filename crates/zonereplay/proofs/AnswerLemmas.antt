@@ -1,84 +1,99 @@
 -- The causes of the statuses.
-use Rattle.std.proofs.Common.{ℕ, ◌≡◌, ◌≤◌, ◌⊎◌, List, Option, Some, None, ap, arith, sym, subst, refl, inl, inr}
-use Rattle.std.specs.Prelude.{codes}
+use Rattle.std.proofs.Common.{ℕ, ◌≡◌, ◌⊎◌, List, Option, Some, None, Result, Ok, Err, ap, arith, sym, subst, refl, inl, inr}
 use Rattle.std.specs.Io.KnownBytes.{Keeps}
+use Rattle.std.specs.declared.vec.Vec.{Vec}
+use Rattle.std.specs.declared.alloc.Global.{Global}
+use Rattle.zonereplay.specs.declared.status.Status.{Status}
+use Rattle.zonereplay.specs.declared.status.Status.TheVariants as status
+use Rattle.zonereplay.specs.declared.stop.Refusal.TheVariants.{Usage, TooLong, Log}
 use Rattle.zonereplay.specs.declared.stop.Stop.{Stop}
-use Rattle.zonereplay.specs.declared.stop.Stop.TheVariants.{ReadFault, TooLong, Log, NoMemory}
-use Rattle.zonereplay.specs.Plan.{Plan, Ends, Reaches, log_fault, usage}
+use Rattle.zonereplay.specs.declared.stop.Stop.TheVariants.{Refused, ReadFault, NoMemory}
+use Rattle.zonereplay.specs.Statuses.{code_of}
+use Rattle.zonereplay.specs.Stops.{status_of, line_of}
+use Rattle.zonereplay.specs.Plan.{Plan, Ends}
 use Rattle.zonereplay.specs.Plan.Plan.{refuses}
 use Rattle.zonereplay.specs.Plan.End.{refused}
-use Rattle.zonereplay.specs.Answers.{Taken, Devices, Told, TakesNone, FilesCalm, Due, Answers, IsFree, IsComplete, IsCalmBut, Does}
-use Rattle.zonereplay.specs.Answers.Answers.{done, told, out_failed, err_failed, no_memory}
-use Rattle.zonereplay.specs.Stops.{StopsBy, StopTold, IsCalm}
+use Rattle.zonereplay.specs.Devices.{Taken, Files, Devices, FilesCalm, TakesWhole, TakesNone, TakesFault}
+use Rattle.zonereplay.specs.Answers.{Stops, Stopped, Says, IsFree, Does}
+use Rattle.zonereplay.specs.Stages.{LineTold, Wants, StopTold, Wrote, Concludes, FilesKept, Prints, Prepares}
 
 known_kept : (known : Option (List ℕ)) → Keeps known known
 known_kept None = tt
 known_kept (Some text) = refl
 
--- a sink that was left alone took nothing
-none_taken : (before after : Taken) → after ≡ before → TakesNone before after
-none_taken before after is = rw is (record { kept = known_kept before.text; calm = refl })
+-- an output that was left alone took nothing
+pub none_taken : (taken : Taken) → TakesNone taken taken
+none_taken taken = record { kept = known_kept taken.text; calm = refl }
+
+-- ---- what a status says
 
 -- a line that was due was told, or standard error refused it
-due_told : (plan : Plan) (before after : Devices) (status : ℕ) (line : List ℕ) (answer : ℕ) → after.out ≡ before.out → Due plan before after status line → Told status line answer before.err after.err → Answers plan before after answer
-due_told plan before after status line answer out due (inl (is, took)) =
-    told (record { line = line; due = subst (λ (s : ℕ). Due plan before after s line) (sym is) due; out = none_taken before.out after.out out; err = took })
-due_told plan before after status line answer out due (inr (is, failed)) =
-    err_failed is (record { status = status; line = line; due = due; out = none_taken before.out after.out out; err = failed })
+line_says : (plan : Plan) (before after : Devices) (stop : Stop) (answer : Status) → TakesNone before.out after.out → Stops plan before.files after.files stop
+    → (TakesWhole before.err after.err (line_of stop) → Says plan before after (status_of stop)) → LineTold (status_of stop) (line_of stop) answer before.err after.err → Says plan before after answer
+line_says plan before after stop answer out cause says (inl (is, whole)) = subst (Says plan before after) (sym is) (says whole)
+line_says plan before after stop answer out cause says (inr (is, fault)) = subst (Says plan before after) (sym is) (inr (record { stop = stop; cause = cause; out = out; err = fault }))
 
-want : (plan : Plan) (before after : Devices) (answer : ℕ) → after.out ≡ before.out → FilesCalm before after → answer ≡ 7 → TakesNone before.err after.err → Answers plan before after answer
-want plan before after answer out files is none = no_memory is (record { files = files; out = none_taken before.out after.out out; err = none })
+want_says : (plan : Plan) (before after : Devices) (answer : Status) → TakesNone before.out after.out → FilesCalm before.files after.files → Wants answer before.err after.err → Says plan before after answer
+want_says plan before after answer out files (is, err) = subst (Says plan before after) (sym is) (record { files = files; out = out; err = err })
 
--- a stop is answered by its cause
-stop_answers : (plan : Plan) (before after : Devices) (name : List ℕ) (stop : Stop) (answer : ℕ) → after.out ≡ before.out → Reaches before.contents plan name
-    → StopsBy before.contents plan (before.faults name) (after.faults name) stop → IsCalm stop (FilesCalm before after) → StopTold stop answer before.err after.err → Answers plan before after answer
-stop_answers plan before after name ReadFault answer out reached rose calm tells = due_told plan before after 4 (codes "read fault\n") answer out (inr (refl, refl, record { name = name; named = reached; rose = rose })) tells
-stop_answers plan before after name TooLong answer out reached ends calm tells = due_told plan before after 6 (codes "too long\n") answer out (inl (ends, calm)) tells
-stop_answers plan before after name (Log line kind) answer out reached ends calm (inl tells) = due_told plan before after 3 (log_fault (record { line = line; kind = kind })) answer out (inl (ends, calm)) tells
-stop_answers plan before after name (Log line kind) answer out reached ends calm (inr (is, none)) = want plan before after answer out calm is none
-stop_answers plan before after name NoMemory answer out reached free calm (is, none) = want plan before after answer out calm is none
+stopped : (plan : Plan) (before after : Devices) (stop : Stop) → TakesNone before.out after.out → Stops plan before.files after.files stop → TakesWhole before.err after.err (line_of stop) → Stopped plan before after (status_of stop)
+stopped plan before after stop out cause whole = record { stop = stop; status_is = refl; cause = cause; out = out; err = whole }
 
--- nothing is due where all is free
-none_due : (plan : Plan) (before after : Devices) (status : ℕ) (line : List ℕ) → IsFree plan before after → Due plan before after status line → ⊥
-none_due plan before after status line free (inl (ends, files)) = free.sound status line ends
-none_due plan before after status line free (inr (is, same, fault)) = free.read fault.name fault.named fault.rose
+-- a stop is answered by its status
+stop_says : (plan : Plan) (before after : Devices) (stop : Stop) (answer : Status) → TakesNone before.out after.out → Stops plan before.files after.files stop → StopTold stop answer before.err after.err → Says plan before after answer
+stop_says plan before after (Refused Usage) answer out cause tells = line_says plan before after (Refused Usage) answer out cause (stopped plan before after (Refused Usage) out cause) tells
+stop_says plan before after (Refused TooLong) answer out cause tells = line_says plan before after (Refused TooLong) answer out cause (stopped plan before after (Refused TooLong) out cause) tells
+stop_says plan before after (Refused (Log line kind)) answer out cause (inl tells) = line_says plan before after (Refused (Log line kind)) answer out cause (stopped plan before after (Refused (Log line kind)) out cause) tells
+stop_says plan before after (Refused (Log line kind)) answer out cause (inr want) = want_says plan before after answer out cause.1 want
+stop_says plan before after ReadFault answer out cause tells = line_says plan before after ReadFault answer out cause (stopped plan before after ReadFault out cause) tells
+stop_says plan before after NoMemory answer out cause want = want_says plan before after answer out cause want
 
--- where all is free, the job is done or there was no memory
-complete : (plan : Plan) (before after : Devices) (status : ℕ) → Answers plan before after status → IsComplete plan before after status
-complete plan before after status (done is all) free = inl is
-complete plan before after status (told fault) free = absurd (none_due plan before after status fault.line free fault.due)
-complete plan before after status (out_failed is fault) free = absurd (free.wrote fault.out.rose)
-complete plan before after status (err_failed is fault) free = absurd (none_due plan before after fault.status fault.line free fault.due)
-complete plan before after status (no_memory is want) free = inr is
+-- lines that were prepared were written, or a write failed
+lines_say : (plan : Plan) (before after : Devices) (lines : List (List ℕ)) (answer : Status) → Prints before.files.contents plan lines → FilesCalm before.files after.files → Wrote lines answer before.out after.out before.err after.err → Says plan before after answer
+lines_say plan before after lines answer prints files (inl (is, out, err)) =
+    subst (Says plan before after) (sym is) (record { told = prints.told; ends = prints.ends; lines = lines; shown = prints.shown; files = files; out = out; err = err })
+lines_say plan before after lines answer prints files (inr (is, out, err)) =
+    subst (Says plan before after) (sym is) (inl (record { told = prints.told; ends = prints.ends; lines = lines; shown = prints.shown; files = files; out = out; err = err }))
 
-due_calm : (plan : Plan) (before after : Devices) (status : ℕ) (line : List ℕ) (answer : ℕ) → (status ≡ 4 → (answer ≡ 4) ⊎ (answer ≡ 5)) → Due plan before after status line → IsCalmBut plan before after answer
-due_calm plan before after status line answer then (inl (ends, files)) = inl files
-due_calm plan before after status line answer then (inr (is, same, fault)) = inr (then is, fault)
+-- ---- completeness
 
--- a file failed only where the status says so
-calm : (plan : Plan) (before after : Devices) (status : ℕ) → Answers plan before after status → IsCalmBut plan before after status
-calm plan before after status (done is all) = inl all.files
-calm plan before after status (told fault) = due_calm plan before after status fault.line status (λ is. inl is) fault.due
-calm plan before after status (out_failed is fault) = inl fault.files
-calm plan before after status (err_failed is fault) = due_calm plan before after fault.status fault.line status (λ four. inr is) fault.due
-calm plan before after status (no_memory is want) = inl want.files
+-- where all is free, a plan stops for want of memory alone
+free_stop : (plan : Plan) (before after : Devices) (stop : Stop) (status : Status) → IsFree plan before after → Stops plan before.files after.files stop → status ≡ status_of stop → code_of status ≡ 7
+free_stop plan before after (Refused refusal) status free cause is = absurd (free.sound refusal cause.0)
+free_stop plan before after ReadFault status free cause is = absurd (free.read cause)
+free_stop plan before after NoMemory status free cause is = ap code_of is
 
-does : (plan : Plan) (before after : Devices) (status : ℕ) → ((name : List ℕ) → after.contents name ≡ before.contents name) → ((name : List ℕ) → before.faults name ≤ after.faults name)
-    → Answers plan before after status → Does plan before after status
-does plan before after status kept later answers = record { answers = answers; complete = complete plan before after status answers; kept = kept; later = later; calm = calm plan before after status answers }
+-- where all is free, no line is due whose write may fail
+free_line : (plan : Plan) (before after : Devices) (stop : Stop) → IsFree plan before after → Stops plan before.files after.files stop → TakesFault before.err after.err (line_of stop) → ⊥
+free_line plan before after (Refused refusal) free cause fault = free.sound refusal cause.0
+free_line plan before after ReadFault free cause fault = free.read cause
+free_line plan before after NoMemory free cause fault = omega (arith, fault.line_failed.proper)
+
+complete : (plan : Plan) (before after : Devices) (status : Status) → Says plan before after status → IsFree plan before after → (code_of status ≡ 0) ⊎ (code_of status ≡ 7)
+complete plan before after status.Done all free = inl refl
+complete plan before after status.Usage told free = inr (free_stop plan before after told.stop status.Usage free told.cause told.status_is)
+complete plan before after status.LogFault told free = inr (free_stop plan before after told.stop status.LogFault free told.cause told.status_is)
+complete plan before after status.ReadFault told free = inr (free_stop plan before after told.stop status.ReadFault free told.cause told.status_is)
+complete plan before after status.TooLong told free = inr (free_stop plan before after told.stop status.TooLong free told.cause told.status_is)
+complete plan before after status.WriteFault (inl fault) free = absurd (free.wrote fault.out.rose)
+complete plan before after status.WriteFault (inr fault) free = absurd (free_line plan before after fault.stop free fault.cause fault.err)
+complete plan before after status.NoMemory want free = inr refl
+
+does : (plan : Plan) (before after : Devices) (status : Status) → FilesKept before.files after.files → Says plan before after status → Does plan before after (code_of status)
+does plan before after status files says = record { status = status; number_is = refl; says = says; complete = complete plan before after status says; kept = files.kept; later = files.later }
 
 -- ---- how a command ends
 
--- a command that stops
-pub stop_does : (plan : Plan) (before after : Devices) (name : List ℕ) (stop : Stop) (answer : ℕ) → after.out ≡ before.out
-    → ((n : List ℕ) → after.contents n ≡ before.contents n) → ((n : List ℕ) → before.faults n ≤ after.faults n) → Reaches before.contents plan name
-    → StopsBy before.contents plan (before.faults name) (after.faults name) stop → IsCalm stop (FilesCalm before after) → StopTold stop answer before.err after.err → Does plan before after answer
-stop_does plan before after name stop answer out kept later reached stops calm tells = does plan before after answer kept later (stop_answers plan before after name stop answer out reached stops calm tells)
+-- a command that followed its plan and concluded
+pub command_does : (plan : Plan) (before after : Devices) (prepared : Result (Vec (List ℕ) Global) Stop) (status : Status) → Prepares plan before.files after.files prepared
+    → Concludes prepared status before.out after.out before.err after.err → Does plan before after (code_of status)
+command_does plan before after (Ok lines) status prepares wrote = does plan before after status prepares.files (lines_say plan before after lines.items status prepares.gives.0 prepares.gives.1 wrote)
+command_does plan before after (Err why) status prepares concludes = does plan before after status prepares.files (stop_says plan before after why status concludes.0 prepares.gives concludes.1)
 
 -- words of no form
-pub usage_does : (plan : Plan) (before after : Devices) (answer : ℕ) → plan ≡ refuses 1 usage → after.out ≡ before.out
-    → after.contents ≡ before.contents → after.faults ≡ before.faults → Told 1 usage answer before.err after.err → Does plan before after answer
-usage_does plan before after answer is out contents faults tells =
-    let ends = λ (p : Plan). Ends before.contents p (refused 1 usage) in
-    let files : FilesCalm before after = λ name. ap (λ f. f name) faults in
-    does plan before after answer (λ name. ap (λ f. f name) contents) (λ name. rw faults (omega arith)) (due_told plan before after 1 usage answer out (inl (subst ends (sym is) refl, files)) tells)
+pub usage_does : (plan : Plan) (before after : Devices) (status : Status) → plan ≡ refuses Usage → after.files ≡ before.files → after.out ≡ before.out → StopTold (Refused Usage) status before.err after.err → Does plan before after (code_of status)
+usage_does plan before after status is files out tells =
+    let ends = subst (λ (p : Plan). Ends before.files.contents p (refused Usage)) (sym is) refl in
+    let calm : FilesCalm before.files after.files = λ name. ap (λ (f : Files). f.faults name) files in
+    let kept : FilesKept before.files after.files = record { kept = λ name. ap (λ (f : Files). f.contents name) files; later = λ name. rw files (omega arith) } in
+    does plan before after status kept (stop_says plan before after (Refused Usage) status (rw out (none_taken before.out)) (ends, calm) tells)

@@ -1,35 +1,85 @@
--- Stops and the plans that they stop.
-use Rattle.std.proofs.Common.{ℕ, ◌≡◌, ◌<◌, cond, List, length, replicate, Option, Some, None, arith, ap, sym, subst, refl, suc}
-use Rattle.std.specs.Prelude.{IfSome, codes}
-use Rattle.std.proofs.lemmas.Bool.{lt-ltb}
+-- Plans and where they stop.
+use Rattle.std.proofs.Common.{ℕ, ◌≡◌, ◌<◌, ◌≤◌, cond, List, length, replicate, Option, Some, None, Result, Ok, Err, arith, ap, sym, subst, refl, suc, inl, inr, ◌∙◌}
+use Rattle.std.specs.Prelude.{IfSome}
+use Rattle.std.specs.declared.vec.Vec.{Vec}
+use Rattle.std.specs.declared.alloc.Global.{Global}
+use Rattle.std.proofs.lemmas.Bool.{lt-ltb, le-ltb}
 use Rattle.std.proofs.lemmas.List.{length-replicate}
+use Rattle.std.proofs.Math.Path.{fun_ext}
+use Rattle.zone_outside.specs.Faults.{Rose}
+use Rattle.zonereplay.specs.declared.stop.Refusal.TheVariants.{TooLong}
 use Rattle.zonereplay.specs.declared.stop.Stop.{Stop}
-use Rattle.zonereplay.specs.declared.stop.Stop.TheVariants.{ReadFault, TooLong, Log, NoMemory}
-use Rattle.zonereplay.specs.Words.{OneJob}
-use Rattle.zonereplay.specs.Keys.{keys_of}
-use Rattle.zonereplay.specs.Plan.{Plan, Ends, Tells, text_limit, in_limit, one_plan, one_run}
-use Rattle.zonereplay.specs.Plan.Plan.{refuses}
-use Rattle.zonereplay.specs.Plan.End.{refused}
-use Rattle.zonereplay.specs.Stops.{StopsBy, TextStops}
+use Rattle.zonereplay.specs.declared.stop.Stop.TheVariants.{Refused, ReadFault, NoMemory}
+use Rattle.zonereplay.specs.Plan.{Plan, End, Ends, Reaches, MayHold, text_limit, in_limit}
+use Rattle.zonereplay.specs.Plan.Plan.{refuses, reads}
+use Rattle.zonereplay.specs.Plan.End.{refused, written}
+use Rattle.zonereplay.specs.Devices.{Files, FilesCalm}
+use Rattle.zonereplay.specs.Answers.{Stops}
+use Rattle.zonereplay.specs.Stages.{FilesKept, IsTextOf, ReadsText, Prepares}
 
 -- there is a text longer than n
 long_text : (n : ℕ) → (text : List ℕ) × (n < length text)
 long_text n = (replicate (suc n) 0, omega (arith, length-replicate {A = ℕ} (suc n) 0))
 
 -- a text that is too long is refused
-in_limit-long : (next : List ℕ → Plan) (text : List ℕ) → text_limit < length text → in_limit next text ≡ refuses 6 (codes "too long\n")
-in_limit-long next text long = ap (λ b. cond b (refuses 6 (codes "too long\n")) (next text)) (lt-ltb text_limit (length text) long)
+in_limit-long : (next : List ℕ → Plan) (text : List ℕ) → text_limit < length text → in_limit next text ≡ refuses TooLong
+in_limit-long next text long = ap (λ b. cond b (refuses TooLong) (next text)) (lt-ltb text_limit (length text) long)
 
-ends_long : (contents : List ℕ → Option (List ℕ)) (next : List ℕ → Plan) (text : List ℕ) → text_limit < length text → Ends contents (in_limit next text) (refused 6 (codes "too long\n"))
-ends_long contents next text long = let ends = λ (p : Plan). Ends contents p (refused 6 (codes "too long\n")) in subst ends (sym (in_limit-long next text long)) refl
+-- a text within the limit is gone on by
+in_limit-short : (next : List ℕ → Plan) (text : List ℕ) → length text ≤ text_limit → in_limit next text ≡ next text
+in_limit-short next text short = ap (λ b. cond b (refuses TooLong) (next text)) (le-ltb text_limit (length text) short)
 
-some_long : (contents : List ℕ → Option (List ℕ)) (next : List ℕ → Plan) (here : Option (List ℕ)) → IfSome here (λ text. text_limit < length text) → (text : List ℕ) × Tells here text × Ends contents (in_limit next text) (refused 6 (codes "too long\n"))
+ends_long : (contents : List ℕ → Option (List ℕ)) (next : List ℕ → Plan) (text : List ℕ) → text_limit < length text → Ends contents (in_limit next text) (refused TooLong)
+ends_long contents next text long = subst (λ (p : Plan). Ends contents p (refused TooLong)) (sym (in_limit-long next text long)) refl
+
+some_long : (contents : List ℕ → Option (List ℕ)) (next : List ℕ → Plan) (here : Option (List ℕ)) → IfSome here (λ text. text_limit < length text) → (text : List ℕ) × MayHold here text × Ends contents (in_limit next text) (refused TooLong)
 some_long contents next None long = let found = long_text text_limit in (found.0, tt, ends_long contents next found.0 found.1)
 some_long contents next (Some text) long = (text, refl, ends_long contents next text long)
 
--- what stops the reading of the log stops `one`
-pub log_stops : (contents : List ℕ → Option (List ℕ)) (job : OneJob) (before now : ℕ) (stop : Stop) → TextStops (contents job.log) before now stop → StopsBy contents (one_plan job) before now stop
-log_stops contents job before now ReadFault rose = rose
-log_stops contents job before now TooLong long = some_long contents (λ text. one_run job (keys_of text)) (contents job.log) long
-log_stops contents job before now (Log line kind) none = absurd none
-log_stops contents job before now NoMemory free = tt
+-- a file that holds too long a text stops each plan that begins with it
+pub too_long_stops : (name : List ℕ) (before after : Files) → IfSome (before.contents name) (λ text. text_limit < length text) → FilesCalm before after → (next : List ℕ → Plan) → Stops (reads name (in_limit next)) before after (Refused TooLong)
+too_long_stops name before after long calm next = (some_long before.contents next (before.contents name) long, calm)
+
+-- a file that failed stops each plan that begins with it
+pub unread_stops : (name : List ℕ) (before after : Files) → Rose (before.faults name) (after.faults name) → (next : List ℕ → Plan) → Stops (reads name (in_limit next)) before after ReadFault
+unread_stops name before after rose next = record { name = name; named = inl refl; rose = rose }
+
+-- ---- after a text was read
+
+-- a plan that reads a text ends as what it goes on to by it
+pub read_ends : (contents : List ℕ → Option (List ℕ)) (name : List ℕ) (next : List ℕ → Plan) (text : List ℕ) (end : End) → IsTextOf (contents name) text → Ends contents (next text) end → Ends contents (reads name (in_limit next)) end
+read_ends contents name next text end held ends = (text, held.0, subst (λ (p : Plan). Ends contents p end) (sym (in_limit-short next text held.1)) ends)
+
+read_reaches : (contents : List ℕ → Option (List ℕ)) (name : List ℕ) (next : List ℕ → Plan) (text other : List ℕ) → IsTextOf (contents name) text → Reaches contents (next text) other → Reaches contents (reads name (in_limit next)) other
+read_reaches contents name next text other held reached = inr (text, held.0, subst (λ (p : Plan). Reaches contents p other) (sym (in_limit-short next text held.1)) reached)
+
+-- it stops as what it goes on to
+read_stops : (name : List ℕ) (before after : Files) (next : List ℕ → Plan) (text : List ℕ) (why : Stop) → IsTextOf (before.contents name) text → Stops (next text) before after why → Stops (reads name (in_limit next)) before after why
+read_stops name before after next text (Refused refusal) held stops = (read_ends before.contents name next text (refused refusal) held stops.0, stops.1)
+read_stops name before after next text ReadFault held unread = record { name = unread.name; named = read_reaches before.contents name next text unread.name held unread.named; rose = unread.rose }
+read_stops name before after next text NoMemory held calm = calm
+
+read_gives : (name : List ℕ) (before after : Files) (next : List ℕ → Plan) (text : List ℕ) (prepared : Result (Vec (List ℕ) Global) Stop) → IsTextOf (before.contents name) text → Prepares (next text) before after prepared → Prepares (reads name (in_limit next)) before after prepared
+read_gives name before after next text (Ok lines) held went =
+    let prints = went.gives.0 in
+    record {
+      files = went.files;
+      gives = (record { told = prints.told; ends = read_ends before.contents name next text (written prints.told) held prints.ends; shown = prints.shown }, went.gives.1);
+    }
+read_gives name before after next text (Err why) held went = record { files = went.files; gives = read_stops name before after next text why held went.gives }
+
+-- files that hold what they held, and of which none failed, are as they were
+same_files : (before after : Files) → FilesKept before after → FilesCalm before after → after ≡ before
+same_files before after files calm =
+    let made : (List ℕ → Option (List ℕ)) → (List ℕ → ℕ) → Files = λ contents faults. record { contents = contents; faults = faults } in
+    ap (λ c. made c after.faults) (fun_ext files.kept) ∙ ap (made before.contents) (fun_ext calm)
+
+-- a plan that reads a text goes on by it
+pub read_prepares : (name : List ℕ) (before between after : Files) (next : List ℕ → Plan) (text : Vec ℕ Global) (prepared : Result (Vec (List ℕ) Global) Stop) → ReadsText name before between (Ok text) → Prepares (next text.items) between after prepared → Prepares (reads name (in_limit next)) before after prepared
+read_prepares name before between after next text prepared read went =
+    let same = same_files before between read.files read.gives.1 in
+    read_gives name before after next text.items prepared read.gives.0 (subst (λ (f : Files). Prepares (next text.items) f after prepared) same went)
+
+-- a plan that can't read a text stops
+pub read_stopped : (name : List ℕ) (before after : Files) (next : List ℕ → Plan) (why : Stop) → ReadsText name before after (Err why) → Prepares (reads name (in_limit next)) before after (Err why)
+read_stopped name before after next why read = record { files = read.files; gives = read.gives next }

@@ -2,7 +2,11 @@ pub mod Words
 pub mod Keys
 pub mod Reading
 pub mod OneText
-pub mod Plan
-pub mod Answers
-pub mod Jobs
+pub mod Statuses
 pub mod Stops
+pub mod Told
+pub mod Plan
+pub mod Devices
+pub mod Answers
+pub mod Stages
+pub mod Jobs

@@ -49,20 +49,28 @@ in_limits (Some n) = if nat_le 32768 n && nat_le n 67108864 then Some n else Non
 abbrev pub size_of : List ℕ → Option ℕ
 size_of word = in_limits (plain_size_of word)
 
--- what `one` replays: thousandths of a request per second, thousandths of a request, bytes, and the log's name
+-- what `one` replays: thousandths of a request per second, thousandths of a request, and bytes
 pub record OneJob : Type 0 where
   pub rate : ℕ
   pub burst : ℕ
   pub bytes : ℕ
-  pub log : List ℕ
+
+-- what the words may ask for
+pub data Command : Type 0 where
+  -- a log of keys, by its name, is replayed in one zone
+  one : (job : OneJob) (log : List ℕ) → Command
 
 -- the job, where each of its numbers was read
-abbrev pub one_job : Option ℕ → Option ℕ → Option ℕ → List ℕ → Option OneJob
-one_job (Some rate) (Some burst) (Some bytes) log = Some (record { rate = rate; burst = burst; bytes = bytes; log = log })
+abbrev pub one_job : Option ℕ → Option ℕ → Option ℕ → List ℕ → Option Command
+one_job (Some rate) (Some burst) (Some bytes) log = Some (one (record { rate = rate; burst = burst; bytes = bytes }) log)
 one_job rate burst bytes log = None
 
 -- `one RATE BURST SIZE LOG`
-abbrev pub one_of : List (List ℕ) → Option OneJob
+abbrev pub one_of : List (List ℕ) → Option Command
 one_of (command ∷ rate ∷ burst ∷ size ∷ log ∷ []) =
     if bytes_eq command (codes "one") then one_job (rate_of rate) (burst_of burst) (size_of size) log else None
 one_of words = None
+
+-- what the words ask for, none where they are of none of the forms that are built
+abbrev pub command_of : List (List ℕ) → Option Command
+command_of words = one_of words

@@ -1,6 +1,7 @@
 //! The replayer of nginx's shared memory zones: reads directives and a log, and prints each decision.
 #![tactic(auto)]
 
+mod close;
 mod commands;
 mod cut;
 mod job;
@@ -9,6 +10,7 @@ mod one;
 mod output;
 mod prepare;
 mod run;
+mod status;
 mod stop;
 mod tell;
 #[cfg(test)]
@@ -16,12 +18,14 @@ mod tests;
 mod text;
 mod words;
 
+use close::close;
 use run::run;
+use status::Status;
 use std::alloc::Global;
 use std::process::ExitCode;
 use std::rt::Env;
 use std::{env, io};
-use zone_outside::{FileShelf, NoMemory, StdSink, Text};
+use zone_outside::{BufferedSink, FileShelf, NoMemory, StdSink, Text};
 
 /// The words after the program's name; none of them where one isn't text.
 fn words_of(rt: &(impl Env + AllocGlobal)) -> Result<Vec<Text>, NoMemory> {
@@ -41,10 +45,13 @@ fn words_of(rt: &(impl Env + AllocGlobal)) -> Result<Vec<Text>, NoMemory> {
 fn main(rt: HostRuntime) -> ExitCode {
     let alloc = rt.alloc();
     let Ok(words) = words_of(&rt) else {
-        return ExitCode::from(7);
+        return ExitCode::from(Status::NoMemory.code());
     };
-    let mut files = FileShelf::of(&rt);
-    let mut out = StdSink::of(rt.stdout());
+    let Ok(mut out) = BufferedSink::of(alloc, StdSink::of(rt.stdout())) else {
+        return ExitCode::from(Status::NoMemory.code());
+    };
     let mut err = StdSink::of(rt.stderr());
-    ExitCode::from(run(&rt, alloc, &words, &mut files, &mut out, &mut err))
+    let mut files = FileShelf::of(&rt);
+    let number = run(&rt, alloc, &words, &mut files, &mut out, &mut err);
+    ExitCode::from(close(number, &mut out, &mut err))
 }

@@ -1,4 +1,4 @@
-ghost use Rattle.std.specs.Prelude.{◌≡◌, IfOk, []};
+ghost use Rattle.std.specs.Prelude.{◌≡◌, IfOk};
 ghost use Rattle.req_zone.specs.Places.{opened};
 ghost use Rattle.std.specs.List.{All};
 ghost use Rattle.zonereplay.specs.Jobs.{asked};
@@ -35,7 +35,7 @@ fn open_zone(alloc: Global, job: Job) -> Result<ReqZone, NoMemory>
 /// The lines of `one` for the keys of a log, which are checked one after another in a fresh zone.
 pub(crate) fn lines_of(alloc: Global, job: Job, keys: Vec<KeyLine>) -> Result<Vec<Text>, NoMemory>
     requires { All IsInLimits keys.items }
-    ensures { IfOk result (λ lines. lines.items ≡ one_lines (asked job []) keys.items) }
+    ensures { IfOk result (λ lines. lines.items ≡ one_lines (asked job) keys.items) }
 {
     let mut zone = open_zone(alloc, job)?;
     let mut lines = Vec::with_capacity(alloc, keys.len())?;

@@ -1,18 +1,14 @@
-ghost use Rattle.std.specs.Prelude.{◌≡◌, ◌⊎◌, IsSome};
-ghost use Rattle.zonereplay.specs.Words.{one_of};
-ghost use Rattle.zonereplay.specs.Plan.{plan_of, usage};
-ghost use Rattle.zonereplay.specs.Plan.Plan.{refuses};
-ghost use Rattle.zonereplay.specs.Answers.{devices, Does};
+ghost use Rattle.std.specs.Prelude.{◌≡◌, ◌⊎◌, None};
+ghost use Rattle.zonereplay.specs.Words.{command_of};
+ghost use Rattle.zonereplay.specs.Plan.{plan_of};
+ghost use Rattle.zonereplay.specs.Answers.{Does};
 
 use crate::commands::one_command;
-use crate::tell::tell;
+use crate::stop::{Refusal, Stop};
+use crate::tell::tell_stop;
 use crate::words::read_one;
 use std::alloc::Global;
 use zone_outside::{Shelf, Sink, Text};
-
-/// The line that tells the forms of the words.
-const USAGE: &[u8; 143] =
-    b"usage: one RATE BURST SIZE LOG | check CONFIG | plain CONFIG LOG | replay CONFIG LOG WORKERS [words] | image CONFIG LOG ZONE | made SEED LINES\n";
 
 /// Does what the words ask for, and answers the status with which the program ends:
 ///
@@ -37,15 +33,23 @@ pub fn run<R, F: Shelf, O: Sink, E: Sink>(
 ) -> u8
     // Each status has its cause, and with sound texts and devices without faults it is 0 or 7.
     ensures does { Does (plan_of words.now)
-        (devices (F.contents files.old) (F.faults files.old) (O.taken out.old) (O.faults out.old) (E.taken err.old) (E.faults err.old))
-        (devices (F.contents files.new) (F.faults files.new) (O.taken out.new) (O.faults out.new) (E.taken err.new) (E.faults err.new))
+        (record {
+          files = record { contents = F.contents files.old; faults = F.faults files.old };
+          out = record { text = O.taken out.old; faults = O.faults out.old };
+          err = record { text = E.taken err.old; faults = E.faults err.old };
+        })
+        (record {
+          files = record { contents = F.contents files.new; faults = F.faults files.new };
+          out = record { text = O.taken out.new; faults = O.faults out.new };
+          err = record { text = E.taken err.new; faults = E.faults err.new };
+        })
         result }
     // 1 exactly for words of no form, but where the usage line can't be written.
-    ensures form { result ≡ 1 → plan_of words.now ≡ refuses 1 usage }
-    ensures no_form { plan_of words.now ≡ refuses 1 usage → (result ≡ 1) ⊎ (result ≡ 5) }
+    ensures form { result ≡ 1 → command_of words.now ≡ None }
+    ensures no_form { command_of words.now ≡ None → (result ≡ 1) ⊎ (result ≡ 5) }
 {
     match read_one(words) {
         Some(_) => one_command(alloc, words, files, out, err),
-        None => tell(err, 1, USAGE),
+        None => tell_stop(alloc, err, Stop::Refused(Refusal::Usage)).code(),
     }
 }

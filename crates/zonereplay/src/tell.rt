@@ -1,25 +1,32 @@
 ghost use Rattle.std.specs.Prelude.{◌≡◌, ◌++◌, OnOk, OnErr, IfOk};
-ghost use Rattle.zonereplay.specs.Plan.{log_fault};
-ghost use Rattle.zonereplay.specs.Answers.{Taken, Told, Tries, write_fault};
-ghost use Rattle.zonereplay.specs.Stops.{StopTold};
+ghost use Rattle.zonereplay.specs.Stops.{line_of};
+ghost use Rattle.zonereplay.specs.Devices.{Tries, write_fault};
+ghost use Rattle.zonereplay.specs.Stages.{LineTold, StopTold};
+ghost use Rattle.zonereplay.specs.declared.stop.Refusal.TheVariants.{Log};
+ghost use Rattle.zonereplay.specs.declared.stop.Stop.TheVariants.{Refused};
 
-use crate::stop::Stop;
+use crate::status::Status;
+use crate::stop::{Refusal, Stop};
 use crate::text::push_number;
 use std::alloc::Global;
 use zone_outside::{NoMemory, Sink, Text, write_all};
 
-/// Tells standard error of a failed write, if it takes that, and answers 5.
-pub(crate) fn tell_write_fault<E: Sink>(err: &mut E) -> u8
-    ensures status { result ≡ 5 }
+/// The line that tells the forms of the words.
+const USAGE: &[u8; 143] =
+    b"usage: one RATE BURST SIZE LOG | check CONFIG | plain CONFIG LOG | replay CONFIG LOG WORKERS [words] | image CONFIG LOG ZONE | made SEED LINES\n";
+
+/// Tells standard error of a failed write, if it takes that.
+pub(crate) fn tell_write_fault<E: Sink>(err: &mut E) -> Status
+    ensures status { result ≡ Status.WriteFault }
     ensures told { Tries (record { text = E.taken err.old; faults = E.faults err.old }) (record { text = E.taken err.new; faults = E.faults err.new }) write_fault }
 {
     let _ = write_all(err, b"write fault\n");
-    5
+    Status::WriteFault
 }
 
-/// Writes a line to standard error, and answers this status; or, where that fails, tells so and answers 5.
-pub(crate) fn tell<E: Sink>(err: &mut E, status: u8, line: &[u8]) -> u8
-    ensures { Told status line.now result (record { text = E.taken err.old; faults = E.faults err.old }) (record { text = E.taken err.new; faults = E.faults err.new }) }
+/// Writes a line to standard error, and answers this status; or, where that fails, tells so.
+fn tell<E: Sink>(err: &mut E, status: Status, line: &[u8]) -> Status
+    ensures { LineTold status line.now result (record { text = E.taken err.old; faults = E.faults err.old }) (record { text = E.taken err.new; faults = E.faults err.new }) }
 {
     match write_all(err, line) {
         Ok(()) => status,
@@ -29,7 +36,7 @@ pub(crate) fn tell<E: Sink>(err: &mut E, status: u8, line: &[u8]) -> u8
 
 /// The line of a fault of the log.
 fn log_line(alloc: Global, line: u64, kind: u32) -> Result<Text, NoMemory>
-    ensures { IfOk result (λ text. text ≡ log_fault (record { line = line; kind = kind })) }
+    ensures { IfOk result (λ text. text ≡ line_of (Refused (Log line kind))) }
 {
     let mut text = Vec::from_slice(alloc, b"log ")?;
     push_number(&mut text, line)?;
@@ -40,16 +47,17 @@ fn log_line(alloc: Global, line: u64, kind: u32) -> Result<Text, NoMemory>
 }
 
 /// Tells why a command stopped, and answers its status.
-pub(crate) fn tell_stop<E: Sink>(alloc: Global, err: &mut E, stop: Stop) -> u8
+pub(crate) fn tell_stop<E: Sink>(alloc: Global, err: &mut E, stop: Stop) -> Status
     ensures { StopTold stop result (record { text = E.taken err.old; faults = E.faults err.old }) (record { text = E.taken err.new; faults = E.faults err.new }) }
 {
     match stop {
-        Stop::ReadFault => tell(err, 4, b"read fault\n"),
-        Stop::TooLong => tell(err, 6, b"too long\n"),
-        Stop::Log { line, kind } => match log_line(alloc, line, kind) {
-            Ok(text) => tell(err, 3, text.bytes()),
-            Err(_) => 7,
+        Stop::Refused(Refusal::Usage) => tell(err, Status::Usage, USAGE),
+        Stop::Refused(Refusal::TooLong) => tell(err, Status::TooLong, b"too long\n"),
+        Stop::Refused(Refusal::Log { line, kind }) => match log_line(alloc, line, kind) {
+            Ok(text) => tell(err, Status::LogFault, text.bytes()),
+            Err(_) => Status::NoMemory,
         },
-        Stop::NoMemory => 7,
+        Stop::ReadFault => tell(err, Status::ReadFault, b"read fault\n"),
+        Stop::NoMemory => Status::NoMemory,
     }
 }

@@ -1,6 +1,7 @@
 ghost use Rattle.std.specs.Prelude.{◌≡◌, ◌≤◌, IfSome, MatchOption, Some, None};
 ghost use Rattle.req_zone.specs.Amount.{IsRate, greatest_burst};
 ghost use Rattle.zonereplay.specs.Words.{rate_of, burst_of, unit_of, size_of, one_of};
+ghost use Rattle.zonereplay.specs.Words.Command.{one};
 ghost use Rattle.zonereplay.specs.Jobs.{asked};
 
 use crate::job::Job;
@@ -56,7 +57,7 @@ pub fn read_size(word: &[u8]) -> Option<u64>
 
 /// What the words `one RATE BURST SIZE LOG` ask for: the numbers and the log's name.
 pub(crate) fn read_one(words: &[Text]) -> Option<(Job, &Text)>
-    ensures { MatchOption result (one_of words.now ≡ None) (λ found. one_of words.now ≡ Some (asked found.0 found.1.now)) }
+    ensures { MatchOption result (one_of words.now ≡ None) (λ found. one_of words.now ≡ Some (one (asked found.0) found.1.now)) }
 {
     let [command, rate, burst, size, log] = words else {
         return None;

@@ -1,5 +1,5 @@
-use Rattle.directive_text.proofs.Fitting.{spelled-fits}
+use Rattle.directive_text.proofs.Meaning.{spelled_fits}
 use Rattle.directive_text.proofs.laws.spelled_fits.Goals as goal
 
 pub returns : goal.returns
-returns c = spelled-fits
+returns c = spelled_fits

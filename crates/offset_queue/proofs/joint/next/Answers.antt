@@ -1,6 +1,5 @@
-use Rattle.std.proofs.Common.{ℕ, ◌≡◌, ap, ◌∙◌, arith}
-use Rattle.offset_queue.specs.Queue.{offset_of}
-use Rattle.offset_queue.specs.Joining.{joint_from}
+use Rattle.std.proofs.Common.{ℕ, ap, ◌∙◌, arith}
+use Rattle.offset_queue.specs.Inside.{joint_from}
 use Rattle.offset_queue.proofs.Joints.{joint_room, joint_ends, entry_above, head_below, next_joint, joint_from_offset}
 use Rattle.offset_queue.proofs.joint.next.Goals as goal
 

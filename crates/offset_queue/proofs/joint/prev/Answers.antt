@@ -1,7 +1,6 @@
-use Rattle.std.proofs.Common.{ℕ, ◌≡◌, ap, ◌∙◌, arith}
-use Rattle.offset_queue.specs.Queue.{offset_of}
-use Rattle.offset_queue.specs.Joining.{joint_from}
-use Rattle.offset_queue.proofs.Joints.{joint_room, joint_ends, entry_above, head_below, prev_joint, joint_from_offset}
+use Rattle.std.proofs.Common.{ℕ, ap, ◌∙◌, arith}
+use Rattle.offset_queue.specs.Inside.{joint_from}
+use Rattle.offset_queue.proofs.Joints.{joint_room, entry_above, head_below, prev_joint, joint_from_offset}
 use Rattle.offset_queue.proofs.joint.prev.Goals as goal
 
 pub read-offset-requires : goal.read-offset-requires

@@ -18,4 +18,4 @@ loop-k-preserved c =
 pub returns : goal.returns
 returns c =
     let all : c.loop-k.k ≡ length c.args.keys.now.numbers.items = omega (arith, c.len-k-end.ensures) in
-    empty_tree _ _ _ _ c.init.ensures.changes c.init.ensures.lays (subst (λ (k : ℕ). IsGrid (words_in c.loop-k.blocks.entries.items) c.args.t.now c.args.keys.now k) all c.loop-k.invariant)
+    empty_tree _ _ _ _ c.init.ensures.changes c.init.ensures.lays (subst (λ (k : ℕ). IsGrid (words_in c.loop-k.blocks.entries) c.args.t.now c.args.keys.now k) all c.loop-k.invariant)

@@ -1,4 +1,4 @@
-use Rattle.std.proofs.Common.{ℕ, List, [], ◌∷◌, ◌++◌, subst, sym}
+use Rattle.std.proofs.Common.{ℕ, List, [], ◌++◌, subst, sym}
 use Rattle.zone_region.specs.Members.{In}
 use Rattle.zone_region.proofs.MembersLemmas.{In-middle}
 use Rattle.offset_tests.specs.Line.{IsLine}

@@ -4,4 +4,4 @@ use Rattle.offset_tests.specs.Line.{IsLine}
 use Rattle.offset_tests.proofs.tests.queue_of_three.Given as goal
 
 abbrev pub invariant-loop-change : goal.invariant-loop-change
-invariant-loop-change g l = IsLine (words_in l.blocks.entries.items) l.q []
+invariant-loop-change g l = IsLine (words_in l.blocks.entries) l.q []

@@ -3,4 +3,4 @@ use Rattle.offset_tests.specs.Grid.{HasTree}
 use Rattle.offset_tests.proofs.tests.random_run.Given as goal
 
 abbrev pub invariant-loop-step : goal.invariant-loop-step
-invariant-loop-step g l = HasTree (words_in l.blocks.blocks.entries.items) l.t l.keys
+invariant-loop-step g l = HasTree (words_in l.blocks.blocks.entries) l.t l.keys

@@ -3,7 +3,7 @@ use Rattle.offset_tests.specs.Grid.{HasTree}
 use Rattle.offset_tests.proofs.tests.thousand.Given as goal
 
 abbrev pub invariant-loop-added : goal.invariant-loop-added
-invariant-loop-added g l = HasTree (words_in l.blocks.blocks.entries.items) l.t l.keys
+invariant-loop-added g l = HasTree (words_in l.blocks.blocks.entries) l.t l.keys
 
 abbrev pub invariant-loop-half : goal.invariant-loop-half
-invariant-loop-half g l = HasTree (words_in l.blocks.blocks.entries.items) l.t l.keys
+invariant-loop-half g l = HasTree (words_in l.blocks.blocks.entries) l.t l.keys

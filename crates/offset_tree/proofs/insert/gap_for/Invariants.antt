@@ -1,6 +1,6 @@
 use Rattle.std.proofs.Common.{ℕ, ◌+◌, ◌/◌, List, length}
-use Rattle.offset_tree.specs.Trees.{IsDrawn, Sought}
-use Rattle.offset_tree.specs.Inserting.{Descending}
+use Rattle.offset_tree.specs.Inside.Trees.{IsDrawn, Sought}
+use Rattle.offset_tree.specs.Inside.Inserting.{Descending}
 use Rattle.offset_tree.proofs.insert.gap_for.Given as goal
 
 abbrev pub invariant-loop-round : goal.invariant-loop-round

@@ -1,7 +1,7 @@
 use Rattle.std.proofs.Common.{sym, ◌∙◌, arith}
+use Rattle.offset_tree.proofs.SideLemmas.{read_at}
 use Rattle.offset_tree.proofs.Writes.{parent_length}
 use Rattle.offset_tree.proofs.Frames.{nodes_changed_twice}
-use Rattle.offset_tree.proofs.RepairLemmas.{read_at}
 use Rattle.offset_tree.proofs.UnlinkLemmas.{sided_reads, read_room, taken_out}
 use Rattle.offset_tree.proofs.remove.take_out.Goals as goal
 
@@ -27,8 +27,8 @@ replace-requires-clause-live g c = λ ne.
     let m = g.B.Blocks.words c.args.blocks.now in
     omega (arith, read_room m _ _ 0 c.parent-p.ensures.value (sided_reads _ _ _ _ _ c.requires.there.1).parent_room ne, parent_length _ _ _ _ _ c.parent-p.result c.set_parent.ensures.does)
 
-pub mend-requires-clause-there : goal.mend-requires-clause-there
-mend-requires-clause-there g c =
+pub delete_fixup-requires-clause-there : goal.delete_fixup-requires-clause-there
+delete_fixup-requires-clause-there g c =
     let o = c.requires.there.1 in
     let t = taken_out _ _ _ _ _ _ c.other.result c.hole_side-hole.result _ c.child-v.result c.parent-p.result o c.other.ensures c.child-v.ensures.value c.parent-p.ensures.value c.hole_side-hole.ensures c.set_parent.ensures.does c.replace.ensures.replaces in
     (c.requires.there.0, _, t.1 (sym (sided_reads _ _ _ _ _ o).colour ∙ (sym c.is_red-red.ensures.value ∙ c.if-not-red.true)))
@@ -36,12 +36,12 @@ mend-requires-clause-there g c =
 pub returns-then-not-red-clause-settled : goal.returns-then-not-red-clause-settled
 returns-then-not-red-clause-settled g c = λ xs o.
     let t = taken_out _ _ _ _ _ _ c.other.result c.hole_side-hole.result _ c.child-v.result c.parent-p.result o c.other.ensures c.child-v.ensures.value c.parent-p.ensures.value c.hole_side-hole.ensures c.set_parent.ensures.does c.replace.ensures.replaces in
-    c.mend.ensures.settled xs _ (t.1 (sym (sided_reads _ _ _ _ _ o).colour ∙ (sym c.is_red-red.ensures.value ∙ c.if-not-red.true)))
+    c.delete_fixup.ensures.settled xs _ (t.1 (sym (sided_reads _ _ _ _ _ o).colour ∙ (sym c.is_red-red.ensures.value ∙ c.if-not-red.true)))
 
 pub returns-then-not-red-clause-changes : goal.returns-then-not-red-clause-changes
 returns-then-not-red-clause-changes g c = λ xs o.
     let t = taken_out _ _ _ _ _ _ c.other.result c.hole_side-hole.result _ c.child-v.result c.parent-p.result o c.other.ensures c.child-v.ensures.value c.parent-p.ensures.value c.hole_side-hole.ensures c.set_parent.ensures.does c.replace.ensures.replaces in
-    nodes_changed_twice _ _ _ _ _ t.2 (c.mend.ensures.changes xs _ (t.1 (sym (sided_reads _ _ _ _ _ o).colour ∙ (sym c.is_red-red.ensures.value ∙ c.if-not-red.true))))
+    nodes_changed_twice _ _ _ _ _ t.2 (c.delete_fixup.ensures.changes xs _ (t.1 (sym (sided_reads _ _ _ _ _ o).colour ∙ (sym c.is_red-red.ensures.value ∙ c.if-not-red.true))))
 
 pub returns-else-not-red-clause-settled : goal.returns-else-not-red-clause-settled
 returns-else-not-red-clause-settled g c = λ xs o.

@@ -1,4 +1,4 @@
-use Rattle.std.proofs.Common.{◌≡◌, ◌+◌, ap, sym, ◌∙◌, length, arith}
+use Rattle.std.proofs.Common.{ap, sym, ◌∙◌, length, arith}
 use Rattle.slab_model.specs.Geometry.{first_index}
 use Rattle.slab_model.specs.Blocks.{lowest_unused}
 use Rattle.slab_model.proofs.ClassLemmas.{cuts}

@@ -1,6 +1,6 @@
 use Rattle.std.proofs.Common.{ℕ, List}
 use Rattle.slab_model.specs.declared.runs.Run.{Run}
-use Rattle.slab_pages.specs.Steps.{LaysList}
+use Rattle.slab_pages.specs.RunSteps.{LaysList}
 use Rattle.slab_pages.proofs.WalkLemmas.{Passes}
 use Rattle.slab_pages.proofs.checks.is_apart.Given as goal
 

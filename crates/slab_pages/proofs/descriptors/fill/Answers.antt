@@ -1,5 +1,5 @@
 use Rattle.std.proofs.Common.{ℕ, ◌-◌, subst, arith}
-use Rattle.slab_pages.specs.Steps.{FillsRun, SetsWords}
+use Rattle.slab_pages.specs.RunSteps.{FillsRun, SetsWords}
 use Rattle.slab_pages.proofs.PlaceLemmas.{descriptor-word}
 use Rattle.slab_pages.proofs.WriteLemmas.{fills_more}
 use Rattle.slab_pages.proofs.descriptors.fill.Goals as goal

@@ -1,5 +1,5 @@
 use Rattle.std.proofs.Common.{◌-◌}
-use Rattle.slab_pages.specs.Steps.{FillsRun}
+use Rattle.slab_pages.specs.RunSteps.{FillsRun}
 use Rattle.slab_pages.proofs.descriptors.fill.Given as goal
 
 abbrev pub invariant-loop-page : goal.invariant-loop-page

@@ -1,6 +1,6 @@
 use Rattle.std.proofs.Common.{ℕ, ◌≡◌, ◌⊎◌, List, subst, arith, inl, inr, ◌∙◌}
 use Rattle.slab_model.specs.declared.runs.Run.{Run}
-use Rattle.slab_pages.specs.Steps.{Detaches, IsBefore}
+use Rattle.slab_pages.specs.RunSteps.{Detaches, IsBefore}
 use Rattle.slab_pages.proofs.EdgeLemmas.{before_none, before_zero, before_first}
 use Rattle.slab_pages.proofs.runs.detach_before.Goals as goal
 

@@ -3,7 +3,7 @@ use Rattle.slab_model.specs.declared.runs.Run.{Run}
 use Rattle.slab_model.specs.Runs.{page_total, give_run}
 use Rattle.slab_model.proofs.RunLemmas.{page_total-give, AreSound-give}
 use Rattle.slab_pages.specs.Places.{pfree_word}
-use Rattle.slab_pages.specs.Steps.{without_run}
+use Rattle.slab_pages.specs.RunSteps.{without_run}
 use Rattle.slab_pages.proofs.GiveLemmas.{given_clear, given_after, given_before, uncovered_without, merges, given, page_total-le}
 use Rattle.slab_pages.proofs.runs.give_pages.Goals as goal
 

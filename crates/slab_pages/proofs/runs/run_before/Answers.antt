@@ -1,7 +1,7 @@
 use Rattle.std.proofs.Common.{◌≡◌, ◌-◌, ◌%◌, sym, ap, arith, ◌∙◌}
 use Rattle.slab_model.specs.Runs.{pages_before}
 use Rattle.slab_pages.specs.Places.{descriptor, next_at, prev_at}
-use Rattle.slab_pages.specs.Steps.{start_at}
+use Rattle.slab_pages.specs.RunSteps.{start_at}
 use Rattle.slab_pages.proofs.EdgeLemmas.{before_in, before_type, before_start, before_loose, before_linked}
 use Rattle.slab_pages.proofs.runs.run_before.Goals as goal
 

@@ -1,6 +1,6 @@
 use Rattle.std.proofs.Common.{ℕ, ◌+◌, ◌-◌, sym, ap, subst, arith, inr, ◌∙◌}
-use Rattle.slab_pages.specs.Places.{next_at, prev_at, IsPlace}
-use Rattle.slab_pages.specs.Steps.{BeginsRun}
+use Rattle.slab_pages.specs.Places.{next_at, prev_at, IsDescriptorOffset}
+use Rattle.slab_pages.specs.RunSteps.{BeginsRun}
 use Rattle.slab_pages.proofs.PlaceLemmas.{descriptor-word}
 use Rattle.slab_pages.proofs.UnlinkLemmas.{node_place, node_before, node_after}
 use Rattle.slab_pages.proofs.EdgeLemmas.{listed_in, node_room, links_at}
@@ -38,13 +38,13 @@ pub link-requires-clause-a_in : goal.link-requires-clause-a_in
 link-requires-clause-a_in c = let w = c.requires.laid in omega (arith, (listed_in w.0 _ w.1 c.args.first w.2 (omega (arith, w.4, w.5))).room, w.4, w.5, c.begin_run.ensures.same_length, c.offset_of-rest.ensures, descriptor-word (c.args.first + c.args.n))
 
 pub link-requires-clause-b_is : goal.link-requires-clause-b_is
-link-requires-clause-b_is c = let w = c.requires.laid in subst (λ (o : ℕ). IsPlace o) (sym (c.next-after.ensures ∙ ap (λ o. next_at c.args.region.now o) c.offset_of-o.ensures)) (node_place _ _ (node_after w.0 _ w.1 c.args.first w.2 (omega (arith, w.4, w.5))))
+link-requires-clause-b_is c = let w = c.requires.laid in subst (λ (o : ℕ). IsDescriptorOffset o) (sym (c.next-after.ensures ∙ ap (λ o. next_at c.args.region.now o) c.offset_of-o.ensures)) (node_place _ _ (node_after w.0 _ w.1 c.args.first w.2 (omega (arith, w.4, w.5))))
 
 pub link-requires-clause-b_in : goal.link-requires-clause-b_in
 link-requires-clause-b_in c = let w = c.requires.laid in omega (arith, node_room w.0 _ w.1 _ w.2 (node_after w.0 _ w.1 c.args.first w.2 (omega (arith, w.4, w.5))), c.next-after.ensures ∙ ap (λ o. next_at c.args.region.now o) c.offset_of-o.ensures, c.begin_run.ensures.same_length)
 
 pub link-requires-2-clause-a_is : goal.link-requires-2-clause-a_is
-link-requires-2-clause-a_is c = let w = c.requires.laid in subst (λ (o : ℕ). IsPlace o) (sym (c.prev-before.ensures ∙ ap (λ o. prev_at c.args.region.now o) c.offset_of-o.ensures)) (node_place _ _ (node_before w.0 _ w.1 c.args.first w.2 (omega (arith, w.4, w.5))))
+link-requires-2-clause-a_is c = let w = c.requires.laid in subst (λ (o : ℕ). IsDescriptorOffset o) (sym (c.prev-before.ensures ∙ ap (λ o. prev_at c.args.region.now o) c.offset_of-o.ensures)) (node_place _ _ (node_before w.0 _ w.1 c.args.first w.2 (omega (arith, w.4, w.5))))
 
 pub link-requires-2-clause-a_in : goal.link-requires-2-clause-a_in
 link-requires-2-clause-a_in c = let w = c.requires.laid in omega (arith, node_room w.0 _ w.1 _ w.2 (node_before w.0 _ w.1 c.args.first w.2 (omega (arith, w.4, w.5))), c.prev-before.ensures ∙ ap (λ o. prev_at c.args.region.now o) c.offset_of-o.ensures, c.begin_run.ensures.same_length, c.link.ensures.same_length)

@@ -1,4 +1,4 @@
-use Rattle.std.proofs.Common.{◌≡◌, ◌+◌, ◌++◌, [], length}
+use Rattle.std.proofs.Common.{◌≡◌, ◌+◌, ◌++◌, length}
 use Rattle.std.specs.List.{All}
 use Rattle.std.specs.Vec.Iter.{into_iter_items}
 use Rattle.req_zone.specs.Step.{replies_of}
@@ -15,5 +15,5 @@ invariant-loop-line l = record {
   rate : l.zone.rate ≡ l.job.rate;
   number : l.number ≡ length l.lines.items + 1;
   limits : All IsInLimits (into_iter_items l.line-iterator);
-  lines : one_lines (asked l.job []) l.fn.keys.items ≡ l.lines.items ++ reply_lines l.number l.job.rate (replies_of places l.job.rate l.zone.state (checks l.job.burst (into_iter_items l.line-iterator)));
+  lines : one_lines (asked l.job) l.fn.keys.items ≡ l.lines.items ++ reply_lines l.number l.job.rate (replies_of places l.job.rate l.zone.state (checks l.job.burst (into_iter_items l.line-iterator)));
 }

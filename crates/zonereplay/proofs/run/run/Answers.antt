@@ -1,11 +1,17 @@
-use Rattle.std.proofs.Common.{ap, refl}
+use Rattle.std.proofs.Common.{ap, refl, subst, sym}
 use Rattle.zonereplay.specs.Plan.{plan_of, plan_for}
-use Rattle.zonereplay.specs.Answers.{devices}
+use Rattle.zonereplay.specs.Devices.{Devices}
+use Rattle.zonereplay.specs.Answers.{Does}
 use Rattle.zonereplay.proofs.AnswerLemmas.{usage_does}
 use Rattle.zonereplay.proofs.run.run.Goals as goal
 
 pub returns-in-None-clause-does : goal.returns-in-None-clause-does
 returns-in-None-clause-does g c =
-    let before = devices (g.F.Shelf.contents c.args.files.now) (g.F.Shelf.faults c.args.files.now) (g.O.Sink.taken c.args.out.now) (g.O.Sink.faults c.args.out.now) (g.E.Sink.taken c.args.err.now) (g.E.Sink.faults c.args.err.now) in
-    let after = devices (g.F.Shelf.contents c.args.files.now) (g.F.Shelf.faults c.args.files.now) (g.O.Sink.taken c.args.out.now) (g.O.Sink.faults c.args.out.now) (g.E.Sink.taken c.tell.new.err) (g.E.Sink.faults c.tell.new.err) in
-    usage_does (plan_of c.args.words.now) before after c.tell.result (ap plan_for c.in-None.ensures) refl refl refl c.tell.ensures
+    let before : Devices = record {
+      files = record { contents = g.F.Shelf.contents c.args.files.now; faults = g.F.Shelf.faults c.args.files.now };
+      out = record { text = g.O.Sink.taken c.args.out.now; faults = g.O.Sink.faults c.args.out.now };
+      err = record { text = g.E.Sink.taken c.args.err.now; faults = g.E.Sink.faults c.args.err.now };
+    } in
+    let after : Devices = record before { err = record { text = g.E.Sink.taken c.tell_stop.new.err; faults = g.E.Sink.faults c.tell_stop.new.err } } in
+    let plan = plan_of c.args.words.now in
+    subst (Does plan before after) (sym c.code.ensures) (usage_does plan before after c.tell_stop.result (ap plan_for c.in-None.ensures) refl refl c.tell_stop.ensures)

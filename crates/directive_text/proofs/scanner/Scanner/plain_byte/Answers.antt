@@ -1,6 +1,6 @@
 use Rattle.std.proofs.Common.{[], ◌∷◌, ◌||◌, ap, ◌∙◌}
 use Rattle.std.specs.Prelude.{◌==◌}
-use Rattle.directive_text.specs.Lexemes.{kept, plain}
+use Rattle.directive_text.specs.Internals.Lexemes.{kept, plain}
 use Rattle.directive_text.proofs.Places.{kept_kept, pass-backslash, pass-plain}
 use Rattle.directive_text.proofs.scanner.Scanner.plain_byte.Goals as goal
 

@@ -1,5 +1,5 @@
 use Rattle.std.proofs.Common.{ap, sym, ◌∙◌}
-use Rattle.directive_text.specs.Lexemes.{kept}
+use Rattle.directive_text.specs.Internals.Lexemes.{kept}
 use Rattle.directive_text.proofs.Places.{plain-end-at}
 use Rattle.directive_text.proofs.scanner.Scanner.plain_word.Goals as goal
 

@@ -1,5 +1,5 @@
 use Rattle.std.proofs.Common.{◌≡◌, ◌≤◌, length}
-use Rattle.directive_text.specs.Lexemes.{kept, plain}
+use Rattle.directive_text.specs.Internals.Lexemes.{kept, plain}
 use Rattle.directive_text.proofs.scanner.Scanner.plain_word.Given as goal
 
 abbrev pub invariant-loop-byte : goal.invariant-loop-byte

@@ -1,5 +1,5 @@
 use Rattle.std.proofs.Common.{ap, ◌∙◌, arith}
-use Rattle.directive_text.specs.Lexemes.{kept}
+use Rattle.directive_text.specs.Internals.Lexemes.{kept}
 use Rattle.directive_text.proofs.Places.{length-next, pass-quoted_backslash, pass-quote}
 use Rattle.directive_text.proofs.scanner.Scanner.quoted_word.Goals as goal
 

@@ -1,5 +1,5 @@
 use Rattle.std.proofs.Common.{◌≡◌, ◌≤◌, length}
-use Rattle.directive_text.specs.Lexemes.{kept, quoted}
+use Rattle.directive_text.specs.Internals.Lexemes.{kept, quoted}
 use Rattle.directive_text.proofs.scanner.Scanner.quoted_word.Given as goal
 
 abbrev pub invariant-loop-byte : goal.invariant-loop-byte

@@ -1,5 +1,5 @@
 use Rattle.std.proofs.Common.{◌≡◌, ◌≤◌, length}
-use Rattle.directive_text.specs.Lexemes.{between}
+use Rattle.directive_text.specs.Internals.Lexemes.{between}
 use Rattle.directive_text.proofs.scanner.Scanner.skip_blank.Given as goal
 
 abbrev pub invariant-loop-byte : goal.invariant-loop-byte

@@ -2,7 +2,7 @@ use Rattle.std.proofs.Common.{ℕ, sym, subst}
 use Rattle.slab_model.specs.declared.runs.Run.{Run}
 use Rattle.slab_pages.specs.Places.{Image}
 use Rattle.slab_pages.specs.Layout.{CanComeBack, MayPut}
-use Rattle.slab_pages.specs.Steps.{LaysList}
+use Rattle.slab_pages.specs.RunSteps.{LaysList}
 use Rattle.slab_pages.proofs.PagesLemmas.{runs-list}
 use Rattle.slab_pages.proofs.pages.Pages.can_put.Goals as goal
 

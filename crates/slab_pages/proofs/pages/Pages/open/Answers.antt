@@ -3,7 +3,7 @@ use Rattle.slab_model.specs.declared.runs.Run.{Run}
 use Rattle.slab_model.specs.Geometry.{pages_of}
 use Rattle.slab_pages.specs.Shapes.{shape_in}
 use Rattle.slab_pages.specs.Places.{pfree_word}
-use Rattle.slab_pages.specs.Steps.{IsCleared, Relists}
+use Rattle.slab_pages.specs.RunSteps.{IsCleared, Relists}
 use Rattle.slab_pages.proofs.OpeningLemmas.{prepared-list, prepared-clear, opened-lays}
 use Rattle.slab_pages.proofs.pages.Pages.open.Goals as goal
 

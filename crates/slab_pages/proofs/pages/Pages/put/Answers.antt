@@ -4,7 +4,7 @@ use Rattle.slab_model.specs.Runs.{give_run}
 use Rattle.slab_pages.specs.Shapes.{shape_in}
 use Rattle.slab_pages.specs.Places.{Image, KeepsOthers}
 use Rattle.slab_pages.specs.Layout.{LaysRuns, CanComeBack, MayPut}
-use Rattle.slab_pages.specs.Steps.{LaysList, GivesRun}
+use Rattle.slab_pages.specs.RunSteps.{LaysList, GivesRun}
 use Rattle.slab_pages.proofs.PagesLemmas.{runs-list, given-runs, come_back-any}
 use Rattle.slab_pages.proofs.pages.Pages.put.Goals as goal
 

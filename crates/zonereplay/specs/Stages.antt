@@ -1,0 +1,83 @@
+-- The stages of a command: it reads its texts, prepares all that it writes, and concludes.
+use Rattle.std.specs.Prelude.{ℕ, ◌≡◌, ◌≤◌, ◌⊎◌, List, [], length, Option, Result, Ok, Err, MatchResult}
+use Rattle.std.specs.List.{concat}
+use Rattle.std.specs.declared.vec.Vec.{Vec}
+use Rattle.std.specs.declared.alloc.Global.{Global}
+use Rattle.zonereplay.specs.declared.status.Status.{Status}
+use Rattle.zonereplay.specs.declared.status.Status.TheVariants.{Done, LogFault, WriteFault, NoMemory}
+use Rattle.zonereplay.specs.declared.stop.Refusal.TheVariants.{Log}
+use Rattle.zonereplay.specs.declared.stop.Stop.{Stop}
+use Rattle.zonereplay.specs.declared.stop.Stop.TheVariants as stop
+use Rattle.zonereplay.specs.Stops.{status_of, line_of}
+use Rattle.zonereplay.specs.Told.{Told, Shows}
+use Rattle.zonereplay.specs.Plan.{Plan, Ends, MayHold, in_limit, text_limit}
+use Rattle.zonereplay.specs.Plan.Plan.{reads}
+use Rattle.zonereplay.specs.Plan.End.{written}
+use Rattle.zonereplay.specs.Devices.{Files, Taken, FilesCalm, TakesWhole, TakesNone, TakesPart, TakesFault, Tries, write_fault}
+use Rattle.zonereplay.specs.Answers.{Stops}
+use Rattle.zone_outside.specs.Buffers.{Buffer}
+use Rattle.zone_outside.specs.Faults.{Rose}
+
+-- the files hold what they held, and no count of them fell
+pub record FilesKept (before after : Files) : Type 0 where
+  pub kept : (name : List ℕ) → after.contents name ≡ before.contents name
+  pub later : (name : List ℕ) → before.faults name ≤ after.faults name
+
+-- ---- reading
+
+-- a file may hold this text, which is within the limit
+abbrev pub IsTextOf : Option (List ℕ) → List ℕ → Type 0
+IsTextOf contents text = MayHold contents text × (length text ≤ text_limit)
+
+-- a file was read: its text, or why each plan that begins with it stops
+pub record ReadsText (name : List ℕ) (before after : Files) (read : Result (Vec ℕ Global) Stop) : Type 0 where
+  pub files : FilesKept before after
+  pub gives : MatchResult read (λ text. IsTextOf (before.contents name) text.items × FilesCalm before after) (λ why. (next : List ℕ → Plan) → Stops (reads name (in_limit next)) before after why)
+
+-- ---- preparing
+
+-- lines that show what the plan writes
+pub record Prints (contents : List ℕ → Option (List ℕ)) (plan : Plan) (lines : List (List ℕ)) : Type 0 where
+  pub told : Told
+  pub ends : Ends contents plan (written told)
+  pub shown : Shows told lines
+
+-- a plan was followed to its end: the lines that it writes, or why it stops
+pub record Prepares (plan : Plan) (before after : Files) (prepared : Result (Vec (List ℕ) Global) Stop) : Type 0 where
+  pub files : FilesKept before after
+  pub gives : MatchResult prepared (λ lines. Prints before.contents plan lines.items × FilesCalm before after) (Stops plan before after)
+
+-- ---- concluding
+
+-- an output took this line, and the answer is this status; or a write of it failed, and the answer says so
+abbrev pub LineTold : Status → List ℕ → Status → Taken → Taken → Type 0
+LineTold status line answer before after = ((answer ≡ status) × TakesWhole before after line) ⊎ ((answer ≡ WriteFault) × TakesFault before after line)
+
+-- there was no memory, and an output took nothing
+abbrev pub Wants : Status → Taken → Taken → Type 0
+Wants answer before after = (answer ≡ NoMemory) × TakesNone before after
+
+-- what is told and answered of a stop; the line of a log's fault takes memory
+abbrev pub StopTold : Stop → Status → Taken → Taken → Type 0
+StopTold stop.NoMemory answer before after = Wants answer before after
+StopTold (stop.Refused (Log line kind)) answer before after = LineTold LogFault (line_of (stop.Refused (Log line kind))) answer before after ⊎ Wants answer before after
+StopTold why answer before after = LineTold (status_of why) (line_of why) answer before after
+
+-- the lines were written; or a write failed, and standard error was told so, if it took that
+abbrev pub Wrote : List (List ℕ) → Status → Taken → Taken → Taken → Taken → Type 0
+Wrote lines answer out out_after err err_after =
+    ((answer ≡ Done) × TakesWhole out out_after (concat lines) × TakesNone err err_after)
+    ⊎ ((answer ≡ WriteFault) × TakesPart out out_after (concat lines) × Tries err err_after write_fault)
+
+-- the lines that were prepared were written, or the stop was told
+abbrev pub Concludes : Result (Vec (List ℕ) Global) Stop → Status → Taken → Taken → Taken → Taken → Type 0
+Concludes (Ok lines) answer out out_after err err_after = Wrote lines.items answer out out_after err err_after
+Concludes (Err why) answer out out_after err err_after = TakesNone out out_after × StopTold why answer err err_after
+
+-- ---- closing
+
+-- after this number all that standard output kept was handed on, or a failed write changes nothing more; or the job was done, a write failed, and standard error was told so, if it took that
+abbrev pub Closes : ℕ → ℕ → Buffer → Buffer → Taken → Taken → Type 0
+Closes number answer out out_after err err_after =
+    ((answer ≡ number) × (number ≡ 0 → out_after.kept ≡ []) × TakesNone err err_after)
+    ⊎ ((number ≡ 0) × (answer ≡ 5) × Rose out.faults out_after.faults × Tries err err_after write_fault)
