@@ -1,5 +1,5 @@
 -- Callers of a row of counters that lower only what they raised.
-use Rattle.std.specs.Prelude.{◌≡◌, ℕ, ◌+◌, ◌*◌, ◌≤◌, List, Some, length, replicate, slice_index, sum_by}
+use Rattle.std.specs.Prelude.{◌≡◌, ℕ, ◌+◌, ◌*◌, ◌≤◌, Some, length, replicate, slice_index, sum_by}
 use Rattle.zone_counters.specs.declared.CounterState.{CounterState}
 use Rattle.zone_counters.specs.Counting.{Made, opened, given, back}
 use Rattle.shared_zone.specs.Callers.{ZoneId, Zone, Caller, made}

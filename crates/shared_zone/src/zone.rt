@@ -134,9 +134,10 @@ impl<S: ZoneObject> SharedZone<S> {
     ghost use Rattle.zone_object.specs.History.{entry};
     ghost use Rattle.shared_zone.specs.Callers.{Zone, Caller, StartsWith, longer, made, HasRoom, IsSameCaller, Begins, IsHistoryOf};
 
-    /// Opens a zone with the object as it is, and with a pass for each of the rooms: pass number k has room for
-    /// `rooms[k]` calls. The memory for all their entries is taken here, and no other call takes any. It fails only where
-    /// there is no memory, and then the object has been dropped. Nobody waits here, since nobody else has the zone yet.
+    /// Opens a zone with the object as it is, which lays out a quiet state, and with a pass for each of the rooms, of which
+    /// there are 1 to 16: pass number k has room for `rooms[k]` calls. The memory for all their entries is taken here, and
+    /// no other call takes any. It fails only where there is no memory, and then the object has been dropped. Nobody waits
+    /// here, since nobody else has the zone yet.
     pub fn open<R: Wait>(
         rt: &R,
         alloc: Global,
@@ -166,7 +167,8 @@ impl<S: ZoneObject> SharedZone<S> {
         Ok((SharedZone { queue }, passes))
     }
 
-    /// Makes a call in the zone's turn, for which it may wait. The history that the pass has then seen is legal, begins with
+    /// Makes a call in the zone's turn, for which it may wait. The pass is one of this zone's, has room for another call,
+    /// and its own calls so far permit this one. The history that it has then seen is legal and well formed, begins with
     /// all that it had seen, and ends with this call and its reply. Of the pass's own calls it has the earlier ones and
     /// this one.
     pub fn call<R: Wait>(&self, rt: &R, pass: &mut Pass<S>, call: S::Call) -> S::Reply
@@ -184,7 +186,7 @@ impl<S: ZoneObject> SharedZone<S> {
         reply
     }
 
-    /// A copy of what the pass has seen, for another pass to meet. It changes nothing that the pass has seen.
+    /// A copy of what the pass has seen, for another pass of this zone to meet. It changes nothing that the pass has seen.
     pub fn note(&self, pass: &mut Pass<S>) -> Note<S>
         requires zone { pass.old.zone.id ≡ self.now }
         ensures pass { pass.new ≡ pass.old }
@@ -211,8 +213,8 @@ impl<S: ZoneObject> SharedZone<S> {
     }
 
     /// Ends the zone, in its turn, for which it may wait: the object, and the whole history, oldest entry first, which the
-    /// object has run from the zone's start. The history begins with what each of the passes has seen, has of each number
-    /// just the calls of the pass of that number, and has no caller without a room.
+    /// object has run from the zone's start. The passes are of this zone, at least one. The history begins with what each
+    /// of them has seen, has of each one's number just its calls, and has no caller without a room.
     pub fn close<R: Wait>(self, rt: &R, passes: Vec<Pass<S>>) -> (S, Vec<Entry<S>>)
         requires some { 0 < vec_len passes }
         requires zone { (zone : Zone S.State) × (zone.id ≡ self) × All (λ pass. pass.zone ≡ zone) passes.items }

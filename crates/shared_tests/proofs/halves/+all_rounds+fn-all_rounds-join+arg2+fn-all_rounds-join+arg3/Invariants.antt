@@ -1,4 +1,4 @@
-use Rattle.std.proofs.Common.{ℕ, ◌+◌, ◌*◌, vec_len}
+use Rattle.std.proofs.Common.{◌+◌, ◌*◌, vec_len}
 use Rattle.shared_tests.proofs.halves.+all_rounds+fn-all_rounds-join+arg2+fn-all_rounds-join+arg3.Given as goal
 
 abbrev pub decreases-all_rounds : goal.decreases-all_rounds

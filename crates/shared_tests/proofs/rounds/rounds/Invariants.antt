@@ -1,4 +1,4 @@
-use Rattle.std.proofs.Common.{ℕ, ◌+◌, ◌*◌, ◌≤◌, length}
+use Rattle.std.proofs.Common.{◌+◌, ◌*◌, ◌≤◌, length}
 use Rattle.shared_zone.specs.Callers.{made, IsSameCaller}
 use Rattle.shared_tests.specs.Rounds.{LowersOwn}
 use Rattle.shared_tests.proofs.rounds.rounds.Given as goal
