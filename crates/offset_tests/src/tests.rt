@@ -240,6 +240,7 @@ fn keys_collide(rt: HostRuntime) -> Result<(), Fail> {
     assert_eq!(rt; multiple(1).to_le_bytes(), *b"A\x06q\xDB\x01\0\0\0");
     assert_eq!(rt; crc32(b"A\x06q\xDB\x01"), crc32(b"\0\0\0\0\0"));
     let order = sorted(alloc, &colliding(alloc)?)?;
+    assert_eq!(rt; order.len(), 64);
     for (hash, _, k) in &order {
         assert_eq!(rt; *hash, crc32(&[(*k % 4) as u8, 0, 0, 0, 0]));
     }
@@ -353,14 +354,19 @@ fn compare_words<R: Abort>(rt: &R, blocks: &MemBlocks, wanted: &[Wanted]) {
     }
 }
 
-/// Blocks put in or taken out one after the other, and words worked out by hand after each.
+/// A change of a small tree: the block that is put in or taken out, how many words are read for that, and words that
+/// stand then.
+type Row<'a> = (u64, u64, &'a [Wanted]);
+
+/// Blocks put in or taken out one after the other. After each, the words and a count of the reads from outside are
+/// compared with those worked out by hand. Gives the number of rows.
 fn small_tree<L: Ledger, R: Abort>(
     rt: &R,
     alloc: Global,
     t: &Tree,
-    rows: &[(u64, &[Wanted])],
+    rows: &[Row],
     blank: Blank,
-) -> Result<(), Fail>
+) -> Result<u64, Fail>
     requires name { blank.name ≡ L.name }
     requires parts { blank.parts ≡ L.parts }
     requires some { 0 < L.parts }
@@ -369,39 +375,52 @@ fn small_tree<L: Ledger, R: Abort>(
 {
     let mut steps = Steps::<L>::new(blank);
     let keys = counted(alloc, 3)?;
-    let mut blocks = laid_out(alloc, t, &keys)?;
-    for (k, wanted) in rows {
+    let mut blocks = CountedBlocks::new(laid_out(alloc, t, &keys)?);
+    let mut tried = 0u64;
+    for (k, reads, wanted) in rows {
         assert!(rt; *k < 3);
         let key = keys.key(alloc, *k)?;
+        let before = blocks.reads();
         toggle(&mut blocks, t, &keys, *k, &key, &mut steps);
-        compare_words(rt, &blocks, wanted);
+        assert_eq!(rt; blocks.reads().wrapping_sub(before), *reads, "at {k}");
+        compare_words(rt, &blocks.blocks, wanted);
+        tried = tried.wrapping_add(1);
     }
-    Ok(())
+    Ok(tried)
 }
 
 /// Request nodes put in by rising hashes, the middle one taken out, and then the others.
+///
+/// A change looks for the key first. That reads the root word, of a node with another hash the hash and a child, and of
+/// the node itself the hash, the length and the key's bytes.
 #[test]
 fn small_request_tree(rt: HostRuntime) -> Result<(), Fail> {
     let rows = [
-        (0, ROOT.as_slice()),
-        (1, &RED_CHILD),
-        (2, &TURNED),
-        (1, &REPLACED),
-        (0, &ROOT_ALONE),
-        (2, &NONE),
+        (0, 1 + 5, ROOT.as_slice()),
+        (1, 3 + 7, &RED_CHILD),
+        (2, 5 + 18, &TURNED),
+        (1, 4 + 13, &REPLACED),
+        (0, 6 + 6, &ROOT_ALONE),
+        (2, 4 + 4, &NONE),
     ];
-    small_tree::<Brand, HostRuntime>(&rt, rt.alloc(), &request_tree(), &rows, Blank::new(1))
+    let t = request_tree();
+    let tried = small_tree::<Brand, HostRuntime>(&rt, rt.alloc(), &t, &rows, Blank::new(1))?;
+    assert_eq!(rt; tried, 6);
+    Ok(())
 }
 
 #[test]
 fn small_connection_tree(rt: HostRuntime) -> Result<(), Fail> {
     let rows = [
-        (1, CONNECTIONS.as_slice()),
-        (2, &RED_CONNECTIONS),
-        (1, &CONNECTIONS_LEFT),
-        (2, &NONE),
+        (1, 1 + 5, CONNECTIONS.as_slice()),
+        (2, 3 + 7, &RED_CONNECTIONS),
+        (1, 4 + 6, &CONNECTIONS_LEFT),
+        (2, 4 + 4, &NONE),
     ];
-    small_tree::<Brand, HostRuntime>(&rt, rt.alloc(), &connection_tree(), &rows, Blank::new(1))
+    let t = connection_tree();
+    let tried = small_tree::<Brand, HostRuntime>(&rt, rt.alloc(), &t, &rows, Blank::new(1))?;
+    assert_eq!(rt; tried, 4);
+    Ok(())
 }
 
 /// `init` sets words 0, 1 and 3 to 7 of the context, whatever they were, and no others.
@@ -454,6 +473,7 @@ fn queue_of_three(rt: HostRuntime) -> Result<(), Fail> {
         (Change::Out(Spot::Front), &[8192, 8320]),
     ];
     begin(&mut blocks, &q);
+    let mut tried = 0u64;
     for (change, want) in rows {
         compare_words(&rt, &blocks, &EMPTIED);
         fill(&mut blocks, &q);
@@ -462,7 +482,9 @@ fn queue_of_three(rt: HostRuntime) -> Result<(), Fail> {
         let mut order = Vec::new(alloc);
         assert!(rt; drain(&mut blocks, &q, &mut order)?, "{change:?}");
         assert_eq!(rt; order.as_slice(), want, "{change:?}");
+        tried = tried.wrapping_add(1);
     }
+    assert_eq!(rt; tried, 7);
     compare_words(&rt, &blocks, &EMPTIED);
     Ok(())
 }

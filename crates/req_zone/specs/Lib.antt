@@ -4,8 +4,13 @@ pub mod Amount
 pub mod Table
 pub mod State
 pub mod Expiry
-pub mod Calls
 pub mod Step
-pub mod Places
+pub mod Counted
 pub mod Opening
 pub mod Leaving
+pub mod Object
+pub mod Holding
+pub mod Laws
+pub mod Proving
+pub mod ObjectLaws
+pub mod Rows

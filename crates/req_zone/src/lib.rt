@@ -6,12 +6,15 @@ pub mod calls;
 pub mod errors;
 mod node;
 pub mod rules;
+pub mod state;
 mod table;
+pub mod theorems;
 pub mod zone;
 
-pub use calls::{ReqReply, ReqSpec};
+pub use calls::{ReqCall, ReqReply, ReqSpec};
 pub use errors::OpenFault;
 pub use rules::{Allowed, amount, delay};
+pub use state::{ReqEntry, ReqState};
 pub use zone::ReqZone;
 
 #[cfg(test)]

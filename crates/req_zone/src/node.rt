@@ -23,9 +23,9 @@ pub(crate) struct Node {
 impl Model for Node {
     ghost use Rattle.std.specs.Prelude.{◌≤◌};
     ghost use Rattle.req_zone.specs.Amount.{IsMoment, greatest_burst};
-    ghost use Rattle.req_zone.specs.Table.{Entry};
+    ghost use Rattle.req_zone.specs.declared.state.ReqEntry.{ReqEntry};
 
-    ghost Value = { Entry };
+    ghost Value = { ReqEntry };
 
     ghost view = { λ n. record { key = n.key; block = 0; excess = n.excess; last = n.last; count = 0 } };
 

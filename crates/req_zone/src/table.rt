@@ -1,9 +1,9 @@
 ghost use Rattle.std.specs.Prelude.{◌≡◌, ◌<◌, ◌≤◌, ◌+◌, ◌∷◌, length, reverse, vec_len, position, slice_index_or};
 ghost use Rattle.std.specs.List.{remove};
 ghost use Rattle.req_zone.specs.Amount.{IsRate, IsMoment, greatest_burst};
-ghost use Rattle.req_zone.specs.Table.{Entry, has_key};
+ghost use Rattle.req_zone.specs.declared.state.ReqEntry.{ReqEntry};
+ghost use Rattle.req_zone.specs.Table.{has_key};
 ghost use Rattle.req_zone.specs.Expiry.{stale_leaving, first_leaving, forced_leaving};
-ghost use Rattle.req_zone.specs.Calls.{reply_of};
 ghost use Rattle.req_zone.specs.Step.{check_found};
 ghost use Rattle.std.specs.Prelude.{true};
 
@@ -67,7 +67,7 @@ pub(crate) fn count_forced(nodes: &[Node], rate: u64, now: u64) -> usize
 /// Moves a node to the front. The order of the others stays.
 fn move_to_front(nodes: &mut [Node], place: usize)
     requires { place < length nodes.old }
-    ensures { (d : Entry) → nodes.new ≡ slice_index_or nodes.old place d ∷ remove nodes.old place }
+    ensures { (d : ReqEntry) → nodes.new ≡ slice_index_or nodes.old place d ∷ remove nodes.old place }
 {
     let front = &mut nodes[..place + 1];
     front.rotate_right(1);
@@ -86,7 +86,7 @@ pub(crate) fn check_at(
     requires rate { IsRate rate }
     requires now { IsMoment now }
     requires burst { burst ≤ greatest_burst }
-    ensures { (d : Entry) → (reply_of result, nodes.new) ≡ check_found rate now burst true (slice_index_or nodes.old place d) (remove nodes.old place) }
+    ensures { (d : ReqEntry) → (result, nodes.new) ≡ check_found rate now burst true (slice_index_or nodes.old place d) (remove nodes.old place) }
 {
     move_to_front(nodes, place);
     let node = &mut nodes[0];

@@ -1,8 +1,7 @@
 ghost use Rattle.std.specs.Prelude.{◌≡◌, ◌<◌, ◌≤◌, ◌+◌, ◌-◌, ◌*◌, ◌^◌, ℕ, length, IfOk, OnErr, MatchResult, true};
 ghost use Rattle.req_zone.specs.Amount.{IsRate, IsMoment, greatest_burst};
-ghost use Rattle.req_zone.specs.Calls.{reply_of, Call};
-ghost use Rattle.req_zone.specs.Calls.Call.{check};
-ghost use Rattle.req_zone.specs.Places.{Zone, opened, capacity_of, places, Answers};
+ghost use Rattle.req_zone.specs.declared.calls.ReqCall.TheVariants.{Check};
+ghost use Rattle.req_zone.specs.Counted.{Zone, opened, capacity_of, places, Answers};
 ghost use Rattle.req_zone.specs.Step.{check_missing};
 ghost use Rattle.req_zone.specs.Table.{entry_of};
 ghost use Rattle.req_zone.specs.Leaving.{leaving_in_all};
@@ -33,7 +32,7 @@ pub struct ReqZone {
 impl Model for ReqZone {
     ghost use Rattle.std.specs.Prelude.{◌<◌, ◌≤◌, ◌-◌, length, vec_len};
     ghost use Rattle.req_zone.specs.Amount.{IsRate};
-    ghost use Rattle.req_zone.specs.Places.{Zone};
+    ghost use Rattle.req_zone.specs.Counted.{Zone};
 
     ghost Value = { Zone };
 
@@ -99,7 +98,7 @@ impl ReqZone {
         requires key { (0 < length key) × (length key ≤ 48) }
         requires now { IsMoment now }
         requires burst { burst ≤ greatest_burst }
-        ensures checked { IfOk result (λ reply. Answers self.old self.new (check key now burst true) (reply_of reply)) }
+        ensures checked { IfOk result (λ reply. Answers self.old self.new (Check key now burst true) reply) }
         ensures unchanged { OnErr result (self.new ≡ self.old) }
         ensures missing { OnErr result (entry_of key self.old.state.table ≡ None) }
     {
@@ -112,7 +111,7 @@ impl ReqZone {
     /// The check of a key that is missing: the oldest nodes make room for a node at the front.
     fn admit(&mut self, key: Key, now: u64) -> Result<ReqReply, NoMemory>
         requires now { IsMoment now }
-        ensures admitted { IfOk result (λ reply. (reply_of reply, self.new.state) ≡ check_missing places self.old.rate key now true self.old.state) }
+        ensures admitted { IfOk result (λ reply. (reply, self.new.state) ≡ check_missing places self.old.rate key now true self.old.state) }
         ensures rate { self.new.rate ≡ self.old.rate }
         ensures unchanged { OnErr result (self.new ≡ self.old) }
     {

@@ -1,17 +1,18 @@
 //! Keys of the zones' tables: lists of bytes, their words, their order and their hash.
 #![tactic(auto)]
 
-pub mod crc;
-pub mod expr;
-pub mod key;
-pub mod laws;
-pub mod order;
-pub mod vars;
-pub mod word;
+mod crc;
+mod expr;
+mod key;
+mod laws;
+mod order;
+mod vars;
+mod word;
 
 pub use crc::crc32;
 pub use expr::{Expr, ExprFault, MAX_PARTS, Part, read_expr};
 pub use key::Key;
+pub use laws::{printed_reads_back, spelled_is_expr};
 pub use order::compare;
 pub use vars::{Pair, Vars, value};
 pub use word::word_of;

@@ -1,12 +1,12 @@
 ghost use Rattle.std.specs.Prelude.{◌≡◌, ◌≤◌, length};
-ghost use Rattle.zone_key.specs.Word.{key_word, number_of};
+ghost use Rattle.zone_key.specs.Word.{key_word, little_endian};
 
 use crate::key::Key;
 
 /// The number of at most eight bytes, the lowest first.
 fn number_in(bytes: &[u8]) -> u64
     requires { length bytes.now ≤ 8 }
-    ensures { result ≡ number_of bytes.now }
+    ensures { result ≡ little_endian bytes.now }
 {
     let mut number = 0;
     for k in (0..bytes.len()).rev() {

@@ -1,5 +1,5 @@
 ghost use Rattle.std.specs.Prelude.{◌≡◌, IfOk};
-ghost use Rattle.req_zone.specs.Places.{opened};
+ghost use Rattle.req_zone.specs.Counted.{opened};
 ghost use Rattle.std.specs.List.{All};
 ghost use Rattle.zonereplay.specs.Jobs.{asked};
 ghost use Rattle.zonereplay.specs.OneText.{one_lines};

@@ -1,6 +1,5 @@
 ghost use Rattle.std.specs.Prelude.{◌≡◌, ◌++◌, ◌<◌, ◌^◌, IfOk, OnOk, decimal};
 ghost use Rattle.zonereplay.specs.OneText.{thousandths, delayed_excess, reply_words, reply_line};
-ghost use Rattle.req_zone.specs.Calls.{reply_of};
 ghost use Rattle.req_zone.specs.Amount.{IsRate};
 
 use itoa::Buffer;
@@ -34,7 +33,7 @@ fn push_thousandths(text: &mut Vec<u8>, number: u64) -> Result<(), AllocError>
 fn push_reply(text: &mut Vec<u8>, rate: u64, reply: ReqReply) -> Result<(), AllocError>
     requires rate { IsRate rate }
     requires excess { delayed_excess reply < 2 ^ 52 }
-    ensures { OnOk result (text.new.items ≡ text.old.items ++ reply_words rate (reply_of reply)) }
+    ensures { OnOk result (text.new.items ≡ text.old.items ++ reply_words rate reply) }
 {
     match reply {
         ReqReply::Pass { excess } => {
@@ -47,6 +46,11 @@ fn push_reply(text: &mut Vec<u8>, rate: u64, reply: ReqReply) -> Result<(), Allo
             text.extend_from_slice(b" busy ")?;
             push_thousandths(text, excess)
         }
+        ReqReply::NoRoom { evicted } => {
+            text.extend_from_slice(b" noroom ")?;
+            push_number(text, evicted)
+        }
+        _ => Ok(()),
     }
 }
 
@@ -59,7 +63,7 @@ pub(crate) fn line_of(
 ) -> Result<Text, NoMemory>
     requires rate { IsRate rate }
     requires excess { delayed_excess reply < 2 ^ 52 }
-    ensures { IfOk result (λ text. text ≡ reply_line number rate (reply_of reply)) }
+    ensures { IfOk result (λ text. text ≡ reply_line number rate reply) }
 {
     let mut text = Vec::with_capacity(alloc, 48)?;
     push_number(&mut text, number)?;

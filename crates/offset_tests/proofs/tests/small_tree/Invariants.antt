@@ -3,4 +3,4 @@ use Rattle.offset_tests.specs.Grid.{HasTree}
 use Rattle.offset_tests.proofs.tests.small_tree.Given as goal
 
 abbrev pub invariant-loop-k : goal.invariant-loop-k
-invariant-loop-k g l = HasTree (words_in l.blocks.entries) l.t l.keys
+invariant-loop-k g l = HasTree (words_in l.blocks.blocks.entries) l.t l.keys

@@ -3,7 +3,7 @@ use Rattle.std.specs.List.{All}
 use Rattle.std.specs.Vec.Iter.{into_iter_items}
 use Rattle.std.proofs.lemmas.List.Elements.{All-head, All-tail}
 use Rattle.req_zone.specs.Step.{replies_of}
-use Rattle.req_zone.specs.Places.{places}
+use Rattle.req_zone.specs.Counted.{places}
 use Rattle.zonereplay.specs.declared.keys.KeyLine.{KeyLine}
 use Rattle.zonereplay.specs.OneText.{reply_lines, checks}
 use Rattle.zonereplay.specs.Reading.{IsInLimits}

@@ -2,7 +2,7 @@ use Rattle.std.proofs.Common.{◌≡◌, ◌+◌, ◌++◌, length}
 use Rattle.std.specs.List.{All}
 use Rattle.std.specs.Vec.Iter.{into_iter_items}
 use Rattle.req_zone.specs.Step.{replies_of}
-use Rattle.req_zone.specs.Places.{places}
+use Rattle.req_zone.specs.Counted.{places}
 use Rattle.zonereplay.specs.Jobs.{asked}
 use Rattle.zonereplay.specs.OneText.{one_lines, reply_lines, checks}
 use Rattle.zonereplay.specs.Reading.{IsInLimits}

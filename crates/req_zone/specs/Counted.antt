@@ -2,7 +2,8 @@
 use Rattle.std.specs.Prelude.{ℕ, ◌+◌, ◌-◌, ◌*◌, ◌≡◌, nat_eq, [], Some, None, if◌then◌else◌}
 use Rattle.slab_model.specs.Store.{BlockStore}
 use Rattle.req_zone.specs.State.{State}
-use Rattle.req_zone.specs.Calls.{Call, Reply}
+use Rattle.req_zone.specs.declared.calls.ReqCall.{ReqCall}
+use Rattle.req_zone.specs.declared.calls.ReqReply.{ReqReply}
 use Rattle.req_zone.specs.Step.{step}
 use Rattle.slab_model.specs.Geometry.{shape_of, pages_of}
 
@@ -27,7 +28,7 @@ abbrev pub opened : ℕ → ℕ → Zone
 opened rate bytes = record { rate = rate; state = record { table = []; memory = capacity_of bytes } }
 
 -- the call has this reply and turns the old zone into the new one
-pub record Answers (old new : Zone) (call : Call) (reply : Reply) : Type 0 where
+pub record Answers (old new : Zone) (call : ReqCall) (reply : ReqReply) : Type 0 where
   pub reply_is : reply ≡ (step places old.rate old.state call).0
   pub state_is : new.state ≡ (step places old.rate old.state call).1
   pub rate_is : new.rate ≡ old.rate

@@ -1,0 +1,4 @@
+pub mod Weights
+pub mod Named
+pub mod Opens
+pub mod Closes

@@ -1,0 +1,10 @@
+pub use Rattle.slab_model.specs.Store
+pub mod Table
+pub mod State
+pub mod Step
+pub mod Object
+pub mod Holding
+pub mod Laws
+pub mod Rows
+pub mod Proving
+pub mod ObjectLaws

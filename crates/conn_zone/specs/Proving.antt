@@ -1,0 +1,5 @@
+pub mod Tables
+pub mod Blocks
+pub mod Wholes
+pub mod Fresh
+pub mod Steps

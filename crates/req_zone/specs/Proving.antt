@@ -1,0 +1,9 @@
+pub mod Tables
+pub mod Expired
+pub mod Blocks
+pub mod Wholes
+pub mod Steps
+pub mod Fresh
+pub mod Answers
+pub mod Named
+pub mod Oldest

@@ -1,0 +1,49 @@
+ghost use Rattle.std.specs.Prelude.{List};
+ghost use Rattle.zone_object.specs.declared.object.Entry.{Entry};
+ghost use Rattle.zone_object.specs.History.{run, IsHistory, IsReady};
+ghost use Rattle.req_zone.specs.declared.calls.ReqCall.{ReqCall};
+ghost use Rattle.req_zone.specs.declared.calls.ReqReply.{ReqReply};
+ghost use Rattle.req_zone.specs.declared.state.ReqState.{ReqState};
+ghost use Rattle.req_zone.specs.Object.{IsOpened, answer_of, zone_after, Permits, Ready};
+ghost use Rattle.req_zone.specs.Holding.{Holds};
+ghost use Rattle.req_zone.specs.Laws.{BusyLaw, BusyKeepsLaw, NoRoomLaw, NoRoomLeavesLaw, FirstStepLaw, StaleStepLaw, ForcedStepLaw, NoneExpiresLaw, HeldStaysLaw, HeldEntryLaw, WholeLaw, OpenLaw, AnswerLaw, StartLaw};
+ghost use Rattle.req_zone.specs.Rows.{OpenRow, HoldRow, BusyRow, SlowRow, BackRow, StaleRow, HeldRow, EvictRow, FullRow, LargeRow};
+
+/// What holds of every call in every state of a request zone, as theorems over the definitions. Nothing runs.
+pub fn laws()
+    ensures busy { BusyLaw }
+    ensures busy_keeps { BusyKeepsLaw }
+    ensures first_step { FirstStepLaw }
+    ensures stale_step { StaleStepLaw }
+    ensures forced_step { ForcedStepLaw }
+    ensures none_expires { NoneExpiresLaw }
+    ensures no_room { NoRoomLaw }
+    ensures no_room_leaves { NoRoomLeavesLaw }
+    ensures held_stays { HeldStaysLaw }
+    ensures held_entry { HeldEntryLaw }
+    ensures whole { WholeLaw }
+    ensures opens { OpenLaw }
+    ensures answers { AnswerLaw }
+    ensures start { StartLaw }
+{}
+
+/// What holds of every history of an object that is a request zone: each call is ready at its place, and the zone is
+/// whole afterwards. Nothing runs.
+pub fn history_laws<X>()
+    ensures ready { (start : ReqState) (log : List (Entry X ReqState ReqCall ReqReply)) → IsHistory IsOpened answer_of zone_after Permits start log → IsReady zone_after Ready start log }
+    ensures holds { (start : ReqState) (log : List (Entry X ReqState ReqCall ReqReply)) → IsHistory IsOpened answer_of zone_after Permits start log → Holds start log (run zone_after start log) }
+{}
+
+/// Worked rows, which the definitions compute. Nothing runs.
+pub fn worked_rows()
+    ensures opened { OpenRow }
+    ensures hold { HoldRow }
+    ensures busy { BusyRow }
+    ensures slow { SlowRow }
+    ensures back { BackRow }
+    ensures stale { StaleRow }
+    ensures held { HeldRow }
+    ensures evict { EvictRow }
+    ensures full { FullRow }
+    ensures large { LargeRow }
+{}

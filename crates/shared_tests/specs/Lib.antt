@@ -1,0 +1,2 @@
+pub use Rattle.zone_object.specs.History
+pub mod Rounds

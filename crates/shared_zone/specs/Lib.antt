@@ -1,0 +1,3 @@
+pub use Rattle.zone_object.specs.History
+pub mod Callers
+pub mod Rule

@@ -1,0 +1,11 @@
+pub mod WordLemmas
+pub mod LinkLemmas
+pub mod KindLemmas
+pub mod BitLemmas
+pub mod DecodeLemmas
+pub mod BlockWords
+pub mod RestLemmas
+pub mod RunLemmas
+pub mod PoolLemmas
+pub mod GrantLemmas
+pub mod ReturnLemmas

@@ -1,0 +1,13 @@
+pub use Rattle.zone_region.specs.Words
+pub use Rattle.slab_model.specs.Geometry
+pub use Rattle.slab_model.specs.State
+pub use Rattle.slab_model.specs.Soundness
+pub use Rattle.slab_pages.specs.Shapes
+pub use Rattle.slab_pages.specs.Places
+pub use Rattle.slab_pages.specs.Frames
+pub use Rattle.slab_pages.specs.SlabLayout
+pub mod WordBits
+pub mod Links
+pub mod Bits
+pub mod Pool
+pub mod Live
