@@ -1,8 +1,8 @@
 //! The zone of `limit_conn`: how many connections each key has, in a table that forgets a key with its last one.
 #![tactic(auto)]
 
-pub mod calls;
-pub mod state;
+mod calls;
+mod state;
 pub mod theorems;
 
 pub use calls::{ConnCall, ConnReply, ConnSpec};

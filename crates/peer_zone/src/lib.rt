@@ -2,8 +2,8 @@
 //! rules and their law, and no zone in words.
 #![tactic(auto)]
 
-pub mod calls;
-pub mod state;
+mod calls;
+mod state;
 pub mod theorems;
 
 pub use calls::{Method, PeerCall, PeerReply, PeerSpec, Server};

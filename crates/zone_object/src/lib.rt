@@ -1,11 +1,11 @@
 //! What a zone's object is: a state laid out in words, changed by calls whose history decides all.
 #![tactic(auto)]
 
-pub mod calls;
-pub mod journal;
-pub mod object;
+mod calls;
+mod journal;
+mod object;
 pub mod theorems;
-pub mod view;
+mod view;
 
 pub use calls::apply_uncounted;
 pub use journal::Journal;
