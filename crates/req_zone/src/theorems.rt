@@ -6,22 +6,30 @@ ghost use Rattle.req_zone.specs.declared.calls.ReqReply.{ReqReply};
 ghost use Rattle.req_zone.specs.declared.state.ReqState.{ReqState};
 ghost use Rattle.req_zone.specs.Object.{IsOpened, answer_of, zone_after, Permits, Ready};
 ghost use Rattle.req_zone.specs.Holding.{Holds};
-ghost use Rattle.req_zone.specs.Laws.{BusyLaw, BusyKeepsLaw, NoRoomLaw, NoRoomLeavesLaw, FirstStepLaw, StaleStepLaw, ForcedStepLaw, NoneExpiresLaw, HeldStaysLaw, HeldEntryLaw, WholeLaw, OpenLaw, AnswerLaw, StartLaw};
+ghost use Rattle.req_zone.specs.Laws.{BusyLaw, BusyKeepsLaw, PassLaw, AgainLaw, FirstRoomLaw, SecondRoomLaw, NoRoomLaw, NoRoomLeavesLaw, FirstStepLaw, StaleStepLaw, ForcedStepLaw, NoneExpiresLaw, HeldStaysLaw, HeldEntryLaw, WholeLaw, OldestWholeLaw, AskedWholeLaw, AdmittedWholeLaw, CallWholeLaw, OpenLaw, AnswerLaw, StartLaw};
 ghost use Rattle.req_zone.specs.Rows.{OpenRow, HoldRow, BusyRow, SlowRow, BackRow, StaleRow, HeldRow, EvictRow, FullRow, LargeRow};
 
 /// What holds of every call in every state of a request zone, as theorems over the definitions. Nothing runs.
 pub fn laws()
     ensures busy { BusyLaw }
     ensures busy_keeps { BusyKeepsLaw }
+    ensures pass { PassLaw }
+    ensures again { AgainLaw }
     ensures first_step { FirstStepLaw }
     ensures stale_step { StaleStepLaw }
     ensures forced_step { ForcedStepLaw }
     ensures none_expires { NoneExpiresLaw }
+    ensures first_room { FirstRoomLaw }
+    ensures second_room { SecondRoomLaw }
     ensures no_room { NoRoomLaw }
     ensures no_room_leaves { NoRoomLeavesLaw }
     ensures held_stays { HeldStaysLaw }
     ensures held_entry { HeldEntryLaw }
     ensures whole { WholeLaw }
+    ensures oldest_whole { OldestWholeLaw }
+    ensures asked_whole { AskedWholeLaw }
+    ensures admitted_whole { AdmittedWholeLaw }
+    ensures call_whole { CallWholeLaw }
     ensures opens { OpenLaw }
     ensures answers { AnswerLaw }
     ensures start { StartLaw }
