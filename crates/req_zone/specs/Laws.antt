@@ -1,8 +1,8 @@
 -- What holds of every call of a request zone.
 use Rattle.std.specs.Prelude.{◌≡◌, ℕ, ◌+◌, ◌<◌, ◌≤◌, ◌↔◌, Bool, true, false, ◌&&◌, nat_eq, List, [], ◌∷◌, ◌++◌, length, map, find, reverse, Some, None, if◌then◌else◌}
-use Rattle.std.specs.List.{Contains}
+use Rattle.std.specs.List.{All, Contains}
 use Rattle.zone_region.specs.Members.{In, IsDistinct}
-use Rattle.slab_model.specs.Blocks.{IsLive}
+use Rattle.slab_model.specs.Blocks.{live_bytes, IsLive}
 use Rattle.slab_model.specs.Geometry.{IsInLimits, shape_of}
 use Rattle.slab_model.specs.Grant.{grant}
 use Rattle.slab_model.specs.Return.{give_back}
@@ -16,20 +16,20 @@ use Rattle.req_zone.specs.Amount.{IsRate, amount_of}
 use Rattle.req_zone.specs.Table.{entry_of, others, is_stale}
 use Rattle.req_zone.specs.Expiry.{stale_leaving, first_leaving, forced_leaving, evict}
 use Rattle.req_zone.specs.Step.{node_size, stored, with_count, new_entry, new_reply}
-use Rattle.req_zone.specs.Object.{IsName, with_context, with_name, opened_zone, IsOpened, parts_of, with_parts, answer_of, zone_after, holds_at, Ready, CanAnswer}
+use Rattle.req_zone.specs.Object.{context_size, name_size, IsName, with_context, with_name, opened_zone, IsOpened, parts_of, with_parts, answer_of, zone_after, holds_at, Ready, CanAnswer}
 use Rattle.req_zone.specs.Holding.{IsWhole}
 
 -- ---- busy
 
 -- the key has an entry, and one request more makes its amount greater than the burst
-pub record IsAbove (s : ReqState) (key : List ℕ) (now burst excess : ℕ) (entry : ReqEntry) : Type 0 where
+pub record IsAboveBurst (s : ReqState) (key : List ℕ) (now burst excess : ℕ) (entry : ReqEntry) : Type 0 where
   pub found : entry_of key s.table ≡ Some entry
   pub above : burst < excess
   pub amount : excess ≡ amount_of s.rate entry.excess entry.last now
 
 -- busy is answered exactly where the amount is above the burst
 abbrev pub BusyLaw : Type 0
-BusyLaw = (s : ReqState) (key : List ℕ) (now burst : ℕ) (last : Bool) (excess : ℕ) → (answer_of s (Check key now burst last) ≡ Busy excess) ↔ ((entry : ReqEntry) × IsAbove s key now burst excess entry)
+BusyLaw = (s : ReqState) (key : List ℕ) (now burst : ℕ) (last : Bool) (excess : ℕ) → (answer_of s (Check key now burst last) ≡ Busy excess) ↔ ((entry : ReqEntry) × IsAboveBurst s key now burst excess entry)
 
 -- the same zone with another table
 abbrev pub with_table : ReqState → List ReqEntry → ReqState
@@ -37,23 +37,23 @@ with_table s table = with_parts s (record { table = table; memory = s.slab })
 
 -- and then the entry stands at the front, and all else is as before
 abbrev pub BusyKeepsLaw : Type 0
-BusyKeepsLaw = (s : ReqState) (key : List ℕ) (now burst : ℕ) (last : Bool) (excess : ℕ) (entry : ReqEntry) → IsAbove s key now burst excess entry → zone_after s (Check key now burst last) ≡ with_table s (entry ∷ others key s.table)
+BusyKeepsLaw = (s : ReqState) (key : List ℕ) (now burst : ℕ) (last : Bool) (excess : ℕ) (entry : ReqEntry) → IsAboveBurst s key now burst excess entry → zone_after s (Check key now burst last) ≡ with_table s (entry ∷ others key s.table)
 
 -- ---- within the burst
 
 -- the key has an entry, and one request more makes its amount at most the burst
-pub record IsInside (s : ReqState) (key : List ℕ) (now burst excess : ℕ) (entry : ReqEntry) : Type 0 where
+pub record IsWithinBurst (s : ReqState) (key : List ℕ) (now burst excess : ℕ) (entry : ReqEntry) : Type 0 where
   pub found : entry_of key s.table ≡ Some entry
   pub within : excess ≤ burst
   pub amount : excess ≡ amount_of s.rate entry.excess entry.last now
 
 -- the last limit then passes the request, stores the amount, and the entry comes to the front
 abbrev pub PassLaw : Type 0
-PassLaw = (s : ReqState) (key : List ℕ) (now burst excess : ℕ) (entry : ReqEntry) → IsInside s key now burst excess entry → (answer_of s (Check key now burst true) ≡ Pass excess) × (zone_after s (Check key now burst true) ≡ with_table s (stored excess now entry ∷ others key s.table))
+PassLaw = (s : ReqState) (key : List ℕ) (now burst excess : ℕ) (entry : ReqEntry) → IsWithinBurst s key now burst excess entry → (answer_of s (Check key now burst true) ≡ Pass excess) × (zone_after s (Check key now burst true) ≡ with_table s (stored excess now entry ∷ others key s.table))
 
 -- and an earlier one holds the entry
 abbrev pub AgainLaw : Type 0
-AgainLaw = (s : ReqState) (key : List ℕ) (now burst excess : ℕ) (entry : ReqEntry) → IsInside s key now burst excess entry → (answer_of s (Check key now burst false) ≡ Again excess entry.block) × (zone_after s (Check key now burst false) ≡ with_table s (with_count (entry.count + 1) entry ∷ others key s.table))
+AgainLaw = (s : ReqState) (key : List ℕ) (now burst excess : ℕ) (entry : ReqEntry) → IsWithinBurst s key now burst excess entry → (answer_of s (Check key now burst false) ≡ Again excess entry.block) × (zone_after s (Check key now burst false) ≡ with_table s (with_count (entry.count + 1) entry ∷ others key s.table))
 
 -- ---- expiry, one entry after another
 
@@ -161,16 +161,28 @@ blocks_of s = s.context ∷ s.name_block ∷ map (λ (entry : ReqEntry). entry.b
 abbrev pub WholeLaw : Type 0
 WholeLaw = (s : ReqState) → IsWhole s → IsDistinct (blocks_of s) × ((at : ℕ) → In at (blocks_of s) ↔ IsLive s.slab at)
 
--- a zone stays whole: when its oldest entry leaves, when its slab gives nothing, when an entry comes, and with each ready call
+-- each block has the bytes that it was granted for
+pub record HasSpace (s : ReqState) : Type 0 where
+  pub context : context_size ≤ live_bytes s.slab s.context
+  pub name : name_size s.name ≤ live_bytes s.slab s.name_block
+  pub nodes : All (λ (entry : ReqEntry). node_size + length entry.key ≤ live_bytes s.slab entry.block) s.table
+
+abbrev pub SpaceLaw : Type 0
+SpaceLaw = (s : ReqState) → IsWhole s → HasSpace s
+
+-- a zone stays whole when its oldest entry leaves
 abbrev pub OldestWholeLaw : Type 0
 OldestWholeLaw = (s : ReqState) (newer : List ReqEntry) (oldest : ReqEntry) → IsWhole s → s.table ≡ newer ++ oldest ∷ [] → IsWhole (oldest_left s newer oldest)
 
+-- when its slab gives nothing
 abbrev pub AskedWholeLaw : Type 0
 AskedWholeLaw = (s : ReqState) (size : ℕ) → IsWhole s → 0 < size → (grant s.slab size).0 ≡ None → IsWhole (asked_for s size)
 
+-- when an entry comes
 abbrev pub AdmittedWholeLaw : Type 0
 AdmittedWholeLaw = (s : ReqState) (key : List ℕ) (now : ℕ) (last : Bool) (at : ℕ) → IsWhole s → entry_of key s.table ≡ None → (grant s.slab (node_size + length key)).0 ≡ Some at → IsWhole (admitted s key now last at)
 
+-- and with each ready call
 abbrev pub CallWholeLaw : Type 0
 CallWholeLaw = (s : ReqState) (call : ReqCall) → IsWhole s → Ready s call → IsWhole (zone_after s call)
 
@@ -181,6 +193,7 @@ pub record Opens (rate : ℕ) (name : List ℕ) (bytes : ℕ) : Type 0 where
   pub whole : IsWhole (opened_zone rate name bytes)
   pub quiet : IsOpened (opened_zone rate name bytes)
 
+-- each zone within the limits opens so
 abbrev pub OpenLaw : Type 0
 OpenLaw = (rate : ℕ) (name : List ℕ) (bytes : ℕ) → IsRate rate → IsName name → IsInLimits (shape_of bytes) → Opens rate name bytes
 

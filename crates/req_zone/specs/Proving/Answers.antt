@@ -19,7 +19,7 @@ use Rattle.req_zone.specs.Expiry.{first_leaving, forced_leaving, without_oldest}
 use Rattle.req_zone.specs.State.{State}
 use Rattle.req_zone.specs.Step.{node_size, stored, with_count, within_burst, check_found, new_entry, new_reply, after_second, after_first, check_as, change_at, account_amount}
 use Rattle.req_zone.specs.Object.{parts_of, with_parts, answer_of, zone_after, HasRoom, IsExcess, CanCheck}
-use Rattle.req_zone.specs.Laws.{with_table, IsInside, PassLaw, AgainLaw, admitted, FirstRoomLaw, SecondRoomLaw, IsAbove, BusyLaw, BusyKeepsLaw, first_expired, forced_expired, asked_for, before_second, HasNoRoom, NoRoomLaw, NoRoomLeavesLaw, IsStillIn, HeldStaysLaw, AnswerLaw}
+use Rattle.req_zone.specs.Laws.{with_table, IsWithinBurst, PassLaw, AgainLaw, admitted, FirstRoomLaw, SecondRoomLaw, IsAboveBurst, BusyLaw, BusyKeepsLaw, first_expired, forced_expired, asked_for, before_second, HasNoRoom, NoRoomLaw, NoRoomLeavesLaw, IsStillIn, HeldStaysLaw, AnswerLaw}
 use Rattle.req_zone.specs.Proving.Tables.{found_permutes, evicted_permutes}
 use Rattle.req_zone.specs.Proving.Expired.{IsFree, first_within, forced_within, first_free, forced_free}
 use Rattle.req_zone.specs.Proving.Steps.{amount_le, find_all}
@@ -64,7 +64,7 @@ above : (burst amount now : ℕ) (last : Bool) (e : ReqEntry) (rest : List ReqEn
 above burst amount now last e rest excess true is h = let same = busy_same amount excess h in let more = ltb-true burst amount is in (omega (arith, same, more), sym same)
 above burst amount now last e rest excess false is h = absurd (burst_not_busy amount now last e rest excess h)
 
-is_above : (s : ReqState) (key : List ℕ) (now burst : ℕ) (last : Bool) (excess : ℕ) (o : Option ReqEntry) → entry_of key s.table ≡ o → (check_as slab_store s.rate key now burst last (parts_of s) o).0 ≡ Busy excess → (entry : ReqEntry) × IsAbove s key now burst excess entry
+is_above : (s : ReqState) (key : List ℕ) (now burst : ℕ) (last : Bool) (excess : ℕ) (o : Option ReqEntry) → entry_of key s.table ≡ o → (check_as slab_store s.rate key now burst last (parts_of s) o).0 ≡ Busy excess → (entry : ReqEntry) × IsAboveBurst s key now burst excess entry
 is_above s key now burst last excess None is h =
     let left = first_expired s now in
     let g = grant left.slab (node_size + length key) in
@@ -74,7 +74,7 @@ is_above s key now burst last excess (Some e) is h =
     let x = above burst amount now last e (others key s.table) excess (ltb burst amount) refl h in
     (e, record { found = is; above = x.0; amount = x.1 })
 
-busy_found : (s : ReqState) (key : List ℕ) (now burst : ℕ) (last : Bool) (excess : ℕ) (e : ReqEntry) → IsAbove s key now burst excess e → check_found s.rate now burst last e (others key s.table) ≡ (Busy excess, e ∷ others key s.table)
+busy_found : (s : ReqState) (key : List ℕ) (now burst : ℕ) (last : Bool) (excess : ℕ) (e : ReqEntry) → IsAboveBurst s key now burst excess e → check_found s.rate now burst last e (others key s.table) ≡ (Busy excess, e ∷ others key s.table)
 busy_found s key now burst last excess e a =
     let amount = amount_of s.rate e.excess e.last now in
     let more : ltb burst amount ≡ true = lt-ltb burst amount (let x = a.above in let y = a.amount in omega (arith, x, y)) in
@@ -94,14 +94,14 @@ busy_keeps-law s key now burst last excess entry a =
 
 -- ---- within the burst
 
-inside_found : (s : ReqState) (key : List ℕ) (now burst excess : ℕ) (last : Bool) (e : ReqEntry) → IsInside s key now burst excess e → check_found s.rate now burst last e (others key s.table) ≡ within_burst excess now last e (others key s.table)
+inside_found : (s : ReqState) (key : List ℕ) (now burst excess : ℕ) (last : Bool) (e : ReqEntry) → IsWithinBurst s key now burst excess e → check_found s.rate now burst last e (others key s.table) ≡ within_burst excess now last e (others key s.table)
 inside_found s key now burst excess last e a =
     let amount = amount_of s.rate e.excess e.last now in
     let less : ltb burst amount ≡ false = le-ltb burst amount (let x = a.within in let y = a.amount in omega (arith, x, y)) in
     ap (λ (b : Bool). cond b (Busy amount, e ∷ others key s.table) (within_burst amount now last e (others key s.table))) less
     ∙ ap (λ (n : ℕ). within_burst n now last e (others key s.table)) (sym a.amount)
 
-inside_is : (s : ReqState) (key : List ℕ) (now burst excess : ℕ) (last : Bool) (e : ReqEntry) → IsInside s key now burst excess e
+inside_is : (s : ReqState) (key : List ℕ) (now burst excess : ℕ) (last : Bool) (e : ReqEntry) → IsWithinBurst s key now burst excess e
     → (answer_of s (Check key now burst last) ≡ (within_burst excess now last e (others key s.table)).0) × (zone_after s (Check key now burst last) ≡ with_table s (within_burst excess now last e (others key s.table)).1)
 inside_is s key now burst excess last e a = (
   ap (λ (o : Option ReqEntry). (check_as slab_store s.rate key now burst last (parts_of s) o).0) a.found ∙ ap (λ (f : ReqReply × List ReqEntry). f.0) (inside_found s key now burst excess last e a),

@@ -1,4 +1,4 @@
--- Expiry takes the oldest entries one after another.
+-- Expiry takes the oldest entries one after another, and a zone stays whole in each of its steps.
 use Rattle.std.proofs.Common.{ℕ, zero, suc, ◌≡◌, ◌+◌, ◌-◌, ◌≤◌, ◌&&◌, Bool, true, false, cond, eqb, List, [], ◌∷◌, ◌++◌, length, take, reverse, refl, sym, ap, subst, ◌∙◌, arith, length-append}
 use Rattle.std.proofs.lemmas.List.{reverse-append, take-append-le}
 use Rattle.std.proofs.lemmas.Grind.{common_steps}
