@@ -167,6 +167,7 @@ pub record HasSpace (s : ReqState) : Type 0 where
   pub name : name_size s.name ≤ live_bytes s.slab s.name_block
   pub nodes : All (λ (entry : ReqEntry). node_size + length entry.key ≤ live_bytes s.slab entry.block) s.table
 
+-- as in every whole zone
 abbrev pub SpaceLaw : Type 0
 SpaceLaw = (s : ReqState) → IsWhole s → HasSpace s
 
