@@ -67,6 +67,7 @@ IsOpened s = (bytes : ℕ) × IsOpenedAs s bytes
 abbrev pub parts_of : ReqState → State Slab
 parts_of s = record { table = s.table; memory = s.slab }
 
+-- the zone with other parts: its rate, its name and its own two blocks stay
 abbrev pub with_parts : ReqState → State Slab → ReqState
 with_parts s parts = record { rate = s.rate; name = s.name; table = parts.table; slab = parts.memory; context = s.context; name_block = s.name_block }
 
@@ -105,14 +106,13 @@ back_by at (Check key now burst last) = 0
 back_by at (Account block now) = once_at at block
 back_by at (Release block) = once_at at block
 
--- an entry of a history of an object `X` that is such a zone
-abbrev pub Made : Type 0 → Type 0
-Made X = Entry X ReqState ReqCall ReqReply
-
+-- for the history of any object `X` that is such a zone
 module _ {X : Type 0} where
+  -- the holds that an entry of the history gave its caller
   abbrev pub given : ℕ → Entry X ReqState ReqCall ReqReply → ℕ
   given at e = given_by at e.reply
 
+  -- the holds that its caller gave back by it
   abbrev pub back : ℕ → Entry X ReqState ReqCall ReqReply → ℕ
   back at e = back_by at e.call
 
@@ -144,6 +144,7 @@ IsReadyAt table (Check key now burst last) = IsAsked key now burst
 IsReadyAt table (Account at now) = IsMoment now × (0 < holds_at at table)
 IsReadyAt table (Release at) = 0 < holds_at at table
 
+-- what a call needs in this state
 pub record Ready (s : ReqState) (call : ReqCall) : Type 0 where
   pub room : All HasRoom s.table
   pub asked : IsReadyAt s.table call
@@ -167,14 +168,17 @@ CanCheck entries burst last (NoRoom evicted) = evicted ≤ entries
 CanCheck entries burst last (Accounted excess) = ⊥
 CanCheck entries burst last Released = ⊥
 
+-- an account is answered by the excess that the entry then has
 abbrev pub CanAccount : ReqReply → Type 0
 CanAccount (Accounted excess) = IsExcess excess
 CanAccount reply = ⊥
 
+-- a release has one answer
 abbrev pub CanRelease : ReqReply → Type 0
 CanRelease Released = Unit {0}
 CanRelease reply = ⊥
 
+-- what a call can be answered in this state
 abbrev pub CanAnswer : ReqState → ReqCall → ReqReply → Type 0
 CanAnswer s (Check key now burst last) reply = CanCheck (length s.table) burst last reply
 CanAnswer s (Account at now) reply = CanAccount reply

@@ -1,6 +1,6 @@
 -- What calls are answered, and which entries stay.
 use Rattle.std.proofs.Common.{ℕ, ◌≡◌, ◌+◌, ◌-◌, ◌<◌, ◌≤◌, ◌⊎◌, Bool, true, false, cond, eqb, ltb, List, [], ◌∷◌, ◌++◌, length, take, reverse, find, Option, Some, None, refl, sym, ap, ◌∙◌, inl, inr, arith}
-use Rattle.std.proofs.lemmas.Bool.{lt-ltb, ltb-true, ltb-false}
+use Rattle.std.proofs.lemmas.Bool.{lt-ltb, le-ltb, ltb-true, ltb-false}
 use Rattle.std.proofs.lemmas.List.Elements.{All-nil, All-head, All-contains, Contains-append_left, Contains-append_right, Contains-append_cases, Contains-push, Contains-push_cases}
 use Rattle.std.proofs.lemmas.List.Sorted.{All-permutation, Contains-permutation}
 use Rattle.std.specs.List.{All, Contains}
@@ -18,8 +18,8 @@ use Rattle.req_zone.specs.Table.{entry_of, others}
 use Rattle.req_zone.specs.Expiry.{first_leaving, forced_leaving, without_oldest}
 use Rattle.req_zone.specs.State.{State}
 use Rattle.req_zone.specs.Step.{node_size, stored, with_count, within_burst, check_found, new_entry, new_reply, after_second, after_first, check_as, change_at, account_amount}
-use Rattle.req_zone.specs.Object.{parts_of, with_parts, HasRoom, IsExcess, CanCheck}
-use Rattle.req_zone.specs.Laws.{IsAbove, BusyLaw, BusyKeepsLaw, first_expired, forced_expired, asked_for, before_second, HasNoRoom, NoRoomLaw, NoRoomLeavesLaw, IsStillIn, HeldStaysLaw, AnswerLaw}
+use Rattle.req_zone.specs.Object.{parts_of, with_parts, answer_of, zone_after, HasRoom, IsExcess, CanCheck}
+use Rattle.req_zone.specs.Laws.{with_table, IsWithinBurst, PassLaw, AgainLaw, admitted, FirstRoomLaw, SecondRoomLaw, IsAboveBurst, BusyLaw, BusyKeepsLaw, first_expired, forced_expired, asked_for, before_second, HasNoRoom, NoRoomLaw, NoRoomLeavesLaw, IsStillIn, HeldStaysLaw, AnswerLaw}
 use Rattle.req_zone.specs.Proving.Tables.{found_permutes, evicted_permutes}
 use Rattle.req_zone.specs.Proving.Expired.{IsFree, first_within, forced_within, first_free, forced_free}
 use Rattle.req_zone.specs.Proving.Steps.{amount_le, find_all}
@@ -64,7 +64,7 @@ above : (burst amount now : ℕ) (last : Bool) (e : ReqEntry) (rest : List ReqEn
 above burst amount now last e rest excess true is h = let same = busy_same amount excess h in let more = ltb-true burst amount is in (omega (arith, same, more), sym same)
 above burst amount now last e rest excess false is h = absurd (burst_not_busy amount now last e rest excess h)
 
-is_above : (s : ReqState) (key : List ℕ) (now burst : ℕ) (last : Bool) (excess : ℕ) (o : Option ReqEntry) → entry_of key s.table ≡ o → (check_as slab_store s.rate key now burst last (parts_of s) o).0 ≡ Busy excess → (entry : ReqEntry) × IsAbove s key now burst excess entry
+is_above : (s : ReqState) (key : List ℕ) (now burst : ℕ) (last : Bool) (excess : ℕ) (o : Option ReqEntry) → entry_of key s.table ≡ o → (check_as slab_store s.rate key now burst last (parts_of s) o).0 ≡ Busy excess → (entry : ReqEntry) × IsAboveBurst s key now burst excess entry
 is_above s key now burst last excess None is h =
     let left = first_expired s now in
     let g = grant left.slab (node_size + length key) in
@@ -74,7 +74,7 @@ is_above s key now burst last excess (Some e) is h =
     let x = above burst amount now last e (others key s.table) excess (ltb burst amount) refl h in
     (e, record { found = is; above = x.0; amount = x.1 })
 
-busy_found : (s : ReqState) (key : List ℕ) (now burst : ℕ) (last : Bool) (excess : ℕ) (e : ReqEntry) → IsAbove s key now burst excess e → check_found s.rate now burst last e (others key s.table) ≡ (Busy excess, e ∷ others key s.table)
+busy_found : (s : ReqState) (key : List ℕ) (now burst : ℕ) (last : Bool) (excess : ℕ) (e : ReqEntry) → IsAboveBurst s key now burst excess e → check_found s.rate now burst last e (others key s.table) ≡ (Busy excess, e ∷ others key s.table)
 busy_found s key now burst last excess e a =
     let amount = amount_of s.rate e.excess e.last now in
     let more : ltb burst amount ≡ true = lt-ltb burst amount (let x = a.above in let y = a.amount in omega (arith, x, y)) in
@@ -91,6 +91,28 @@ pub busy_keeps-law : BusyKeepsLaw
 busy_keeps-law s key now burst last excess entry a =
     ap (λ (o : Option ReqEntry). with_parts s (check_as slab_store s.rate key now burst last (parts_of s) o).1) a.found
     ∙ ap (λ (f : ReqReply × List ReqEntry). with_parts s (record { table = f.1; memory = s.slab })) (busy_found s key now burst last excess entry a)
+
+-- ---- within the burst
+
+inside_found : (s : ReqState) (key : List ℕ) (now burst excess : ℕ) (last : Bool) (e : ReqEntry) → IsWithinBurst s key now burst excess e → check_found s.rate now burst last e (others key s.table) ≡ within_burst excess now last e (others key s.table)
+inside_found s key now burst excess last e a =
+    let amount = amount_of s.rate e.excess e.last now in
+    let less : ltb burst amount ≡ false = le-ltb burst amount (let x = a.within in let y = a.amount in omega (arith, x, y)) in
+    ap (λ (b : Bool). cond b (Busy amount, e ∷ others key s.table) (within_burst amount now last e (others key s.table))) less
+    ∙ ap (λ (n : ℕ). within_burst n now last e (others key s.table)) (sym a.amount)
+
+inside_is : (s : ReqState) (key : List ℕ) (now burst excess : ℕ) (last : Bool) (e : ReqEntry) → IsWithinBurst s key now burst excess e
+    → (answer_of s (Check key now burst last) ≡ (within_burst excess now last e (others key s.table)).0) × (zone_after s (Check key now burst last) ≡ with_table s (within_burst excess now last e (others key s.table)).1)
+inside_is s key now burst excess last e a = (
+  ap (λ (o : Option ReqEntry). (check_as slab_store s.rate key now burst last (parts_of s) o).0) a.found ∙ ap (λ (f : ReqReply × List ReqEntry). f.0) (inside_found s key now burst excess last e a),
+  ap (λ (o : Option ReqEntry). with_parts s (check_as slab_store s.rate key now burst last (parts_of s) o).1) a.found ∙ ap (λ (f : ReqReply × List ReqEntry). with_table s f.1) (inside_found s key now burst excess last e a),
+)
+
+pub pass-law : PassLaw
+pass-law s key now burst excess e a = inside_is s key now burst excess true e a
+
+pub again-law : AgainLaw
+again-law s key now burst excess e a = inside_is s key now burst excess false e a
 
 -- ---- no room
 
@@ -145,6 +167,38 @@ no_room-law s key now burst last evicted = (
 
 pub no_room_leaves-law : NoRoomLeavesLaw
 no_room_leaves-law s key now burst last evicted full = ap (λ (r : ReqReply × State Slab). with_parts s r.1) (full_is s key now burst last evicted full)
+
+-- ---- room
+
+first_is : (s : ReqState) (key : List ℕ) (now burst : ℕ) (last : Bool) (at : ℕ) → entry_of key s.table ≡ None → (grant (first_expired s now).slab (node_size + length key)).0 ≡ Some at
+    → check_as slab_store s.rate key now burst last (parts_of s) (entry_of key s.table) ≡ (new_reply last at, parts_of (admitted (first_expired s now) key now last at))
+first_is s key now burst last at missing given =
+    let left = first_expired s now in
+    let g = grant left.slab (node_size + length key) in
+    ap (λ (o : Option ReqEntry). check_as slab_store s.rate key now burst last (parts_of s) o) missing
+    ∙ ap (λ (o : Option ℕ). after_first slab_store s.rate key now last (first_leaving s.rate now s.table) left.table o g.1) given
+
+second_is : (s : ReqState) (key : List ℕ) (now burst : ℕ) (last : Bool) (at : ℕ) → entry_of key s.table ≡ None → (grant (first_expired s now).slab (node_size + length key)).0 ≡ None → (grant (before_second s now (node_size + length key)).slab (node_size + length key)).0 ≡ Some at
+    → check_as slab_store s.rate key now burst last (parts_of s) (entry_of key s.table) ≡ (new_reply last at, parts_of (admitted (before_second s now (node_size + length key)) key now last at))
+second_is s key now burst last at missing none given =
+    let size = node_size + length key in
+    let left = first_expired s now in
+    let g = grant left.slab size in
+    let second = before_second s now size in
+    let again = grant second.slab size in
+    ap (λ (o : Option ReqEntry). check_as slab_store s.rate key now burst last (parts_of s) o) missing
+    ∙ ap (λ (o : Option ℕ). after_first slab_store s.rate key now last (first_leaving s.rate now s.table) left.table o g.1) none
+    ∙ ap (λ (o : Option ℕ). after_second key now last (first_leaving s.rate now s.table + forced_leaving s.rate now left.table) second.table o again.1) given
+
+pub first_room-law : FirstRoomLaw
+first_room-law s key now burst last at missing given =
+    let is = first_is s key now burst last at missing given in
+    (ap (λ (r : ReqReply × State Slab). r.0) is, ap (λ (r : ReqReply × State Slab). with_parts s r.1) is)
+
+pub second_room-law : SecondRoomLaw
+second_room-law s key now burst last at missing none given =
+    let is = second_is s key now burst last at missing none given in
+    (ap (λ (r : ReqReply × State Slab). r.0) is, ap (λ (r : ReqReply × State Slab). with_parts s r.1) is)
 
 -- ---- what a call can be answered
 

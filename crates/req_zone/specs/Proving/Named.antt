@@ -1,12 +1,19 @@
 -- The blocks of a whole zone as a list, and the entry of a block that is held.
-use Rattle.std.proofs.Common.{ℕ, ◌≡◌, ◌+◌, ◌<◌, ◌≤◌, Bool, true, false, cond, eqb, List, [], ◌∷◌, map, find, Some, refl, ap, ◌∙◌, inl, inr, arith}
+use Rattle.std.proofs.Common.{ℕ, ◌≡◌, ◌+◌, ◌<◌, ◌≤◌, Bool, true, false, cond, eqb, List, [], ◌∷◌, length, map, find, Option, Some, None, refl, ap, ◌∙◌, inl, inr, arith}
 use Rattle.std.proofs.lemmas.Bool.{cases_eq, eqb-true}
+use Rattle.std.proofs.lemmas.List.Elements.{All-weaker}
+use Rattle.slab_model.specs.Geometry.{class_of}
+use Rattle.slab_model.specs.State.{Slab}
+use Rattle.slab_model.specs.Blocks.{live_bytes}
+use Rattle.slab_model.specs.Grant.{block_bytes, block_bytes_as}
+use Rattle.slab_model.proofs.ClassLemmas.{class_of-some, pages_for-holds}
+use Rattle.req_zone.specs.Step.{node_size}
 use Rattle.zone_region.specs.Members.{In, IsDistinct}
 use Rattle.req_zone.specs.declared.state.ReqEntry.{ReqEntry}
 use Rattle.req_zone.specs.declared.state.ReqState.{ReqState}
-use Rattle.req_zone.specs.Object.{once_at, holds_at}
-use Rattle.req_zone.specs.Holding.{nodes_at, named_at}
-use Rattle.req_zone.specs.Laws.{IsHeldBy, HeldEntryLaw, blocks_of, WholeLaw}
+use Rattle.req_zone.specs.Object.{context_size, name_size, once_at, holds_at}
+use Rattle.req_zone.specs.Holding.{nodes_at, named_at, HasNode}
+use Rattle.req_zone.specs.Laws.{SpaceLaw, IsHeldBy, HeldEntryLaw, blocks_of, WholeLaw}
 use Rattle.req_zone.specs.Proving.Tables.{once_here, once_there, nodes_more, holds_more}
 use Rattle.req_zone.specs.Proving.Blocks.{live_some, live_most, is_live}
 use Rattle.req_zone.specs.Proving.Steps.{unnamed}
@@ -75,3 +82,22 @@ held_first at (e ∷ es) once some = go (eqb e.block at) refl (λ o h. held_firs
 
 pub held_entry-law : HeldEntryLaw
 held_entry-law s at whole some = let named = whole.named at in held_first at s.table (omega (arith, named, live_most s.slab at)) some
+
+-- ---- what a block holds fits in it
+
+block_holds : (slab : Slab) (size : ℕ) → 0 < size → size ≤ block_bytes slab size
+unfolding block_bytes
+block_holds slab size some = go (class_of slab.shape size) refl where
+  go : (class : Option ℕ) → class_of slab.shape size ≡ class → size ≤ block_bytes_as slab size class
+  go None is = (pages_for-holds slab.shape size some).1
+  go (Some class) is = (class_of-some slab.shape size class is).1
+
+node_fits : (slab : Slab) (e : ReqEntry) → HasNode slab e → node_size + length e.key ≤ live_bytes slab e.block
+node_fits slab e has = let h = block_holds slab (node_size + length e.key) (omega arith) in omega (arith, h, has)
+
+pub space-law : SpaceLaw
+space-law s whole = record {
+  context = let h = block_holds s.slab context_size (omega arith) in let is = whole.context in omega (arith, h, is);
+  name = let h = block_holds s.slab (name_size s.name) (omega arith) in let is = whole.name in omega (arith, h, is);
+  nodes = All-weaker (HasNode s.slab) (λ (entry : ReqEntry). node_size + length entry.key ≤ live_bytes s.slab entry.block) (node_fits s.slab) s.table whole.nodes;
+}

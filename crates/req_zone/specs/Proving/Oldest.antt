@@ -1,5 +1,5 @@
--- Expiry takes the oldest entries one after another.
-use Rattle.std.proofs.Common.{ℕ, zero, suc, ◌≡◌, ◌+◌, ◌-◌, ◌&&◌, Bool, true, false, cond, eqb, List, [], ◌∷◌, ◌++◌, length, take, reverse, refl, sym, ap, ◌∙◌, arith, length-append}
+-- Expiry takes the oldest entries one after another, and a zone stays whole in each of its steps.
+use Rattle.std.proofs.Common.{ℕ, zero, suc, ◌≡◌, ◌+◌, ◌-◌, ◌≤◌, ◌&&◌, Bool, true, false, cond, eqb, List, [], ◌∷◌, ◌++◌, length, take, reverse, refl, sym, ap, subst, ◌∙◌, arith, length-append}
 use Rattle.std.proofs.lemmas.List.{reverse-append, take-append-le}
 use Rattle.std.proofs.lemmas.Grind.{common_steps}
 use Rattle.slab_model.specs.State.{Slab}
@@ -11,7 +11,12 @@ use Rattle.req_zone.specs.Table.{is_stale}
 use Rattle.req_zone.specs.State.{State, give_all}
 use Rattle.req_zone.specs.Expiry.{stale_leaving, forced_from, forced_leaving, evict}
 use Rattle.req_zone.specs.Object.{parts_of, with_parts}
-use Rattle.req_zone.specs.Laws.{with_table, stale_expired, forced_expired, oldest_left, NoneExpiresLaw, StaleStepLaw, ForcedStepLaw, FirstStepLaw}
+use Rattle.req_zone.specs.Step.{new_entry}
+use Rattle.req_zone.specs.Holding.{IsWhole}
+use Rattle.req_zone.specs.Proving.Tables.{missing_none}
+use Rattle.req_zone.specs.Proving.Wholes.{whole_evict, whole_none, whole_new}
+use Rattle.req_zone.specs.Proving.Steps.{call_becomes}
+use Rattle.req_zone.specs.Laws.{OldestWholeLaw, AskedWholeLaw, AdmittedWholeLaw, CallWholeLaw, with_table, stale_expired, forced_expired, oldest_left, NoneExpiresLaw, StaleStepLaw, ForcedStepLaw, FirstStepLaw}
 
 module _ {S : Type 0} (memory : BlockStore S) where
   abbrev pub state_of : List ReqEntry → S → State S
@@ -86,3 +91,28 @@ none_expires-law s now = (
 
 pub first_step-law : FirstStepLaw
 first_step-law s now = refl
+
+-- ---- and the zone stays whole
+
+pub oldest_whole-law : OldestWholeLaw
+oldest_whole-law s newer oldest whole is =
+    let t = with_table s (newer ++ oldest ∷ []) in
+    let w : IsWhole t = subst IsWhole (written s (newer ++ oldest ∷ []) is) whole in
+    let one : 1 ≤ length (newer ++ oldest ∷ []) = omega (arith, length-append newer (oldest ∷ [])) in
+    subst (λ (p : State Slab). IsWhole (with_parts s p)) (evict-oldest slab_store newer oldest s.slab 0 ∙ evict-none slab_store newer (give_back s.slab oldest.block)) (whole_evict t 1 w one)
+
+pub asked_whole-law : AskedWholeLaw
+asked_whole-law s size whole some none = whole_none s size whole some none
+
+pub admitted_whole-law : AdmittedWholeLaw
+admitted_whole-law s key now last at whole missing given = whole_new s key now at last whole (missing_none key s.table missing) given (new_entry key now last at) (own_key last) (own_block last) where
+  own_key : (last : Bool) → (new_entry key now last at).key ≡ key
+  own_key true = refl
+  own_key false = refl
+
+  own_block : (last : Bool) → (new_entry key now last at).block ≡ at
+  own_block true = refl
+  own_block false = refl
+
+pub call_whole-law : CallWholeLaw
+call_whole-law s call whole ready = (call_becomes s call whole ready.asked).whole
