@@ -2,14 +2,14 @@
 //! entries.
 #![tactic(auto)]
 
-pub mod calls;
-pub mod errors;
+mod calls;
+mod errors;
 mod node;
-pub mod rules;
-pub mod state;
+mod rules;
+mod state;
 mod table;
 pub mod theorems;
-pub mod zone;
+mod zone;
 
 pub use calls::{ReqCall, ReqReply, ReqSpec};
 pub use errors::OpenFault;
