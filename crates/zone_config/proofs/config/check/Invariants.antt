@@ -1,0 +1,13 @@
+use Rattle.std.proofs.Common.{◌≡◌, ◌+◌, ◌++◌, ◌≤◌, length, min}
+use Rattle.std.specs.List.{filter_map, count_by}
+use Rattle.zone_config.specs.Places.{places_of}
+use Rattle.zone_config.specs.Rules.{conn_names, first_fault, nothing, req_names}
+use Rattle.zone_config.specs.Configuration.{is_passed, location_at, passed_among, server_among, upstream_at, zone_at}
+use Rattle.zone_config.specs.Walking.{places_left}
+use Rattle.zone_config.proofs.config.check.Given as goal
+
+abbrev pub invariant-places : goal.invariant-places
+invariant-places l = first_fault l.text nothing (places_of l.directives) ≡ first_fault l.text l.earlier (places_left l.walk.open.items)
+
+abbrev pub decreases-places : goal.decreases-places
+decreases-places l = length (places_left l.walk.open.items)
