@@ -19,7 +19,7 @@ use Rattle.zone_config.specs.declared.data.ConnLimit.{ConnLimit}
 use Rattle.zone_config.specs.declared.data.Level.{Level}
 use Rattle.zone_config.specs.declared.data.Upstream.{Upstream as UpstreamData}
 use Rattle.zone_config.specs.declared.data.Config.{Config}
-use Rattle.zone_config.specs.Words.{first_of, behind_first, name_of, arguments_of, line_of, has_block, inner_of, is_called, value_of, parameter, declared_by, Declared, is_same_name, host_of}
+use Rattle.zone_config.specs.Words.{first_of, behind_first, name_of, arguments_of, line_of, has_block, inner_of, is_called, has_called, value_of, parameter, declared_by, Declared, is_same_name, host_of}
 use Rattle.zone_config.specs.Numbers.{digits_of, rate_of, time_of}
 use Rattle.zone_config.specs.Places.{Place, Sources, no_sources, inherited, kind_at, places_of}
 use Rattle.zone_config.specs.Rules.{is_backup, is_primary, location_name, bytes_or_none}
@@ -78,7 +78,7 @@ is_backup_server d = is_called (codes "server") d && is_backup d
 
 -- the method of an upstream's block
 abbrev pub method_of : List Directive → MethodData
-method_of block = if list_any (is_called (codes "least_conn")) block then Least else Round
+method_of block = if has_called (codes "least_conn") block then Least else Round
 
 -- the zone of an upstream, whose block this is
 abbrev pub peer_zone : List (List ℕ) → ℕ → List Directive → ZoneSpec
@@ -246,10 +246,14 @@ in_64_bits n = min n 18446744073709551615
 abbrev pub is_passed : Place → Bool
 is_passed p = elim (kind_at p) [ Unnamed ↦ true | _ ↦ false ]
 
+-- how many of these places are passed over
+abbrev pub passed_among : List Place → ℕ
+passed_among places = in_64_bits (count_by is_passed places)
+
 -- The configuration of these places. It has no server only where they have none.
 pub record Configures (places : List Place) (config : Config) : Type 0 where
   pub zones : config.zones ≡ zones_of places
   pub upstreams : config.upstreams ≡ upstreams_of config.zones places
   pub server : server_among config.zones config.upstreams places ≡ Some config.server
   pub locations : config.locations ≡ filter_map (location_at config.zones config.upstreams) places
-  pub passed : config.passed ≡ in_64_bits (count_by is_passed places)
+  pub passed : config.passed ≡ passed_among places

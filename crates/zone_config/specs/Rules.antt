@@ -1,7 +1,7 @@
 -- The rules that directives must keep: each is a test of one place, and of what stands before it.
 use Rattle.std.specs.Prelude.{ℕ, ◌+◌, Bool, true, false, ◌==◌, ◌&&◌, ◌||◌, not, nat_eq, nat_lt, nat_le, List, [], ◌∷◌, ◌++◌, Option, None, Some, length, codes, is_some, is_none, unwrap_or, map, count_by, if◌then◌else◌}
-use Rattle.std.specs.Option.{option_map_or, option_and_then}
-use Rattle.std.specs.List.{list_any, find, filter_map, flat_map, join_with_byte, sum_by}
+use Rattle.std.specs.Option.{option_map, option_map_or, option_and_then}
+use Rattle.std.specs.List.{list_any, find, filter_map, flat_map}
 use Rattle.zone_key.specs.Expr.{is_same, expr_of}
 use Rattle.directive_text.specs.declared.tree.Directive.{Directive}
 use Rattle.zone_config.specs.declared.kind.Kind.{Kind}
@@ -19,9 +19,13 @@ use Rattle.zone_config.specs.Places.{Place, kind_at, places_of}
 abbrev pub arguments_at : Place → List Argument
 arguments_at p = meanings (kind_at p) (arguments_of p.directive)
 
--- a location's name: its one or two words, with a space between
+-- a location's name: its words, with a space between two
+abbrev pub behind_space : List ℕ → List ℕ
+behind_space w = 32 ∷ w
+
 abbrev pub location_name : List (List ℕ) → List ℕ
-location_name words = join_with_byte 32 words
+location_name [] = []
+location_name (w ∷ ws) = w ++ flat_map behind_space ws
 
 -- what the first argument that says something of this sort says
 abbrev pub first_said : (Argument → Option (List ℕ)) → List Argument → Option (List ℕ)
@@ -68,7 +72,7 @@ noted e p = noted_behind e (kind_at p) (arguments_at p) p.directive
 abbrev pub nothing : Earlier
 nothing = record { zone_names = []; zone_bytes = 0; location_names = []; upstream_names = []; has_server = false }
 
--- the names of the zones that these places declare, of request zones or of connection zones
+-- the names of the zones that arguments declare, of request zones or of connection zones
 abbrev pub names_if_req : Kind → List Argument → List (List ℕ)
 names_if_req ReqZone args = filter_map declared_name args
 names_if_req _ args = []
@@ -77,11 +81,15 @@ abbrev pub names_if_conn : Kind → List Argument → List (List ℕ)
 names_if_conn ConnZone args = filter_map declared_name args
 names_if_conn _ args = []
 
+-- the names of the zones that these places declare, by kind
+abbrev pub req_names : List Place → List (List ℕ)
+req_names ps = flat_map (λ (p : Place). names_if_req (kind_at p) (arguments_at p)) ps
+
+abbrev pub conn_names : List Place → List (List ℕ)
+conn_names ps = flat_map (λ (p : Place). names_if_conn (kind_at p) (arguments_at p)) ps
+
 abbrev pub zones_named : List Place → ZoneNames
-zones_named ps = record {
-  req = flat_map (λ (p : Place). names_if_req (kind_at p) (arguments_at p)) ps;
-  conn = flat_map (λ (p : Place). names_if_conn (kind_at p) (arguments_at p)) ps;
-}
+zones_named ps = record { req = req_names ps; conn = conn_names ps }
 
 -- what the rules look at: the zones of the text, what stands before, and a place with what its directive
 -- and the arguments of it are
@@ -347,14 +355,19 @@ pub record Fault : Type 0 where
 abbrev pub without_server : Earlier → Option Fault
 without_server e = if e.has_server then None else Some (record { line = 1; rule = 1 })
 
+-- the fault of a place, if it breaks a rule
+abbrev pub fault_at : ZoneNames → Earlier → Place → Option Fault
+fault_at text e p = option_map (λ rule. record { line = line_of p.directive; rule = rule }) (first_broken rules (seen_at text e p))
+
+-- the first of two faults
+abbrev pub or_fault : Option Fault → Option Fault → Option Fault
+or_fault None later = later
+or_fault (Some fault) later = Some fault
+
 -- The first fault of the places from here on, behind these, in a text with these zones.
 abbrev pub first_fault : ZoneNames → Earlier → List Place → Option Fault
 first_fault text e [] = without_server e
-first_fault text e (p ∷ ps) =
-    elim (first_broken rules (seen_at text e p)) [
-      | Some rule ↦ Some (record { line = line_of p.directive; rule = rule })
-      | None ↦ first_fault text (noted e p) ps
-    ]
+first_fault text e (p ∷ ps) = or_fault (fault_at text e p) (first_fault text (noted e p) ps)
 
 -- the first fault of a tree's places
 abbrev pub fault_among : List Place → Option Fault

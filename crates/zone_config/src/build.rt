@@ -12,7 +12,7 @@ use crate::data::{ConnData, ConnLimit, Level, MethodData, PeerData, ReqData, Req
 use crate::numbers::{digits_of, rate_of, time_of, zone_size};
 use crate::place::{Origins, Spot, inherited};
 use crate::rules::{is_backup, is_primary, location_name};
-use crate::words::{Declaration, arguments_of, declared_by, first_of, inner_of, is_called, is_same_name, parameter, value_of};
+use crate::words::{Declaration, arguments_of, behind_first, declared_by, first_of, has_called, inner_of, is_called, is_same_name, parameter, value_of};
 use directive_text::Directive;
 use sqlite_items::Items;
 use std::alloc::Global;
@@ -27,16 +27,6 @@ fn in_32_bits(count: usize) -> u32
     ensures { result ≡ in_32_bits count }
 {
     if count < 4_294_967_295 { count as u32 } else { 4_294_967_295 }
-}
-
-/// The words behind the first.
-fn behind_first(words: &[Text]) -> &[Text]
-    ensures { result.now ≡ behind_first words.now }
-{
-    match words {
-        [] => &[],
-        [_, later @ ..] => later,
-    }
 }
 
 /// A number, and 0 where there is none.
@@ -201,7 +191,7 @@ fn is_backup_server(directive: &Directive) -> bool
 fn method_of(block: &[Directive]) -> MethodData
     ensures { result ≡ method_of block.now }
 {
-    if block.iter().any(|directive| is_called(b"least_conn", directive)) {
+    if has_called(b"least_conn", block) {
         MethodData::Least
     } else {
         MethodData::Round

@@ -1,10 +1,10 @@
 ghost use Rattle.std.specs.Prelude.{◌≡◌, ◌++◌, None, IfOk, OnOk, MatchResult};
 ghost use Rattle.std.specs.Option.{option_to_list};
 ghost use Rattle.std.specs.List.{filter_map};
-ghost use Rattle.zone_config.specs.Places.{places_of};
-ghost use Rattle.zone_config.specs.Rules.{fault_at, first_fault, names_if_conn, names_if_req, noted, nothing, zones_named};
-ghost use Rattle.zone_config.specs.Configuration.{location_at, passed_among, server_among, upstream_at, upstreams_of, zone_at, zones_of};
-ghost use Rattle.zone_config.specs.Reading.{FaultIs, GivesConfig, ReadsFault};
+ghost use Rattle.zone_config.specs.Places.{kind_at, places_of};
+ghost use Rattle.zone_config.specs.Rules.{arguments_at, fault_at, first_fault, names_if_conn, names_if_req, noted, nothing, zones_named};
+ghost use Rattle.zone_config.specs.Configuration.{Configures, location_at, passed_among, server_among, upstream_at, upstreams_of, zone_at, zones_of};
+ghost use Rattle.zone_config.specs.Reading.{FaultIs, GivesConfig, IsWithoutServer, ReadsFault};
 ghost use Rattle.zone_config.specs.Views.{place_now};
 
 use crate::argument::meanings;
@@ -24,7 +24,8 @@ use zone_outside::NoMemory;
 
 /// Adds the names of the zones that a directive declares.
 fn add_names(alloc: Global, names: &mut ZoneNames, place: &Spot<'_>) -> Result<(), NoMemory>
-    ensures { OnOk result (names.new ≡ names_with names.old (place_now place.now)) }
+    ensures req { OnOk result (names.new.req ≡ names.old.req ++ names_if_req (kind_at (place_now place.now)) (arguments_at (place_now place.now))) }
+    ensures conn { OnOk result (names.new.conn ≡ names.old.conn ++ names_if_conn (kind_at (place_now place.now)) (arguments_at (place_now place.now))) }
 {
     let kind = kind_at(place);
     match kind {

@@ -1,8 +1,8 @@
-ghost use Rattle.std.specs.Prelude.{◌≡◌, ◌+◌, ◌≤◌, ◌++◌, OnOk};
-ghost use Rattle.std.specs.List.{filter_map};
+ghost use Rattle.std.specs.Prelude.{◌≡◌, ◌+◌, ◌≤◌, ◌++◌, OnOk, is_some};
+ghost use Rattle.std.specs.List.{filter_map, find};
 ghost use Rattle.std.specs.Option.{option_copied};
 ghost use Rattle.zone_config.specs.Arguments.{declared_name, declared_size};
-ghost use Rattle.zone_config.specs.Rules.{and_then_one, bytes_or_none, first_said, noted_behind, nothing};
+ghost use Rattle.zone_config.specs.Rules.{and_then_one, bytes_or_none, first_said, is_server, name_if_location, name_if_upstream, noted_behind, nothing};
 
 use crate::argument::Argument;
 use crate::kind::Kind;
@@ -58,21 +58,35 @@ fn declared_size(argument: &Argument) -> Option<&Text>
     }
 }
 
+/// The first argument that declares a zone's name.
+fn with_name(arguments: &[Argument]) -> Option<&Argument>
+    ensures { option_copied result ≡ find (λ a. is_some (declared_name a)) arguments.now }
+{
+    arguments.iter().find(|argument| declared_name(argument).is_some())
+}
+
 /// The first name of a zone that arguments declare.
 fn first_name(arguments: &[Argument]) -> Option<&Text>
     ensures { option_copied result ≡ first_said declared_name arguments.now }
 {
-    match arguments.iter().find(|argument| declared_name(argument).is_some()) {
+    match with_name(arguments) {
         Some(argument) => declared_name(argument),
         None => None,
     }
+}
+
+/// The first argument that declares a zone's size.
+fn with_size(arguments: &[Argument]) -> Option<&Argument>
+    ensures { option_copied result ≡ find (λ a. is_some (declared_size a)) arguments.now }
+{
+    arguments.iter().find(|argument| declared_size(argument).is_some())
 }
 
 /// The first size of a zone that arguments declare.
 fn first_size(arguments: &[Argument]) -> Option<&Text>
     ensures { option_copied result ≡ first_said declared_size arguments.now }
 {
-    match arguments.iter().find(|argument| declared_size(argument).is_some()) {
+    match with_size(arguments) {
         Some(argument) => declared_size(argument),
         None => None,
     }
@@ -91,14 +105,67 @@ fn bytes_declared(arguments: &[Argument]) -> u64
     }
 }
 
-/// Adds a copy of a name, if there is one.
-fn add_name(alloc: Global, names: &mut Items<Text>, name: Option<&[u8]>) -> Result<(), NoMemory>
-    ensures { OnOk result (names.new ≡ and_then_one names.old (option_copied name)) }
+/// Adds the name of the zone that arguments declare, if they declare one.
+fn add_first(
+    alloc: Global,
+    names: &mut Items<Text>,
+    arguments: &[Argument],
+) -> Result<(), NoMemory>
+    ensures { OnOk result (names.new ≡ and_then_one names.old (first_said declared_name arguments.now)) }
 {
-    if let Some(name) = name {
-        names.push(Text::of(alloc, name)?)?;
+    match first_name(arguments) {
+        Some(name) => {
+            names.push(Text::of(alloc, name.bytes())?)?;
+            Ok(())
+        }
+        None => Ok(()),
     }
-    Ok(())
+}
+
+/// Adds the name of a location.
+fn add_location(
+    alloc: Global,
+    names: &mut Items<Text>,
+    kind: Kind,
+    directive: &Directive,
+) -> Result<(), NoMemory>
+    ensures { OnOk result (names.new ≡ and_then_one names.old (name_if_location kind directive.now)) }
+{
+    match kind {
+        Kind::Location => {
+            names.push(location_name(alloc, arguments_of(directive))?)?;
+            Ok(())
+        }
+        _ => Ok(()),
+    }
+}
+
+/// Adds the name of an upstream.
+fn add_upstream(
+    alloc: Global,
+    names: &mut Items<Text>,
+    kind: Kind,
+    directive: &Directive,
+) -> Result<(), NoMemory>
+    ensures { OnOk result (names.new ≡ and_then_one names.old (name_if_upstream kind directive.now)) }
+{
+    match kind {
+        Kind::Upstream => {
+            names.push(Text::of(alloc, first_of(arguments_of(directive)))?)?;
+            Ok(())
+        }
+        _ => Ok(()),
+    }
+}
+
+/// Whether a directive is a `server` block of `http`.
+fn is_server(kind: Kind, directive: &Directive) -> bool
+    ensures { result ≡ is_server kind directive.now }
+{
+    match kind {
+        Kind::Server => has_block(directive),
+        _ => false,
+    }
 }
 
 /// Adds the names of all zones that arguments declare.
@@ -143,21 +210,10 @@ impl Earlier {
         ensures { OnOk result (self.new ≡ noted_behind self.old kind arguments.now directive.now) }
     {
         self.zone_bytes += bytes_declared(arguments);
-        if let Some(name) = first_name(arguments) {
-            add_name(alloc, &mut self.zone_names, Some(name.bytes()))?;
-        }
-        match kind {
-            Kind::Location => {
-                let name = location_name(alloc, arguments_of(directive))?;
-                self.location_names.push(name)?;
-            }
-            Kind::Upstream => {
-                let name = Text::of(alloc, first_of(arguments_of(directive)))?;
-                self.upstream_names.push(name)?;
-            }
-            Kind::Server => self.has_server = self.has_server || has_block(directive),
-            _ => {}
-        }
+        add_first(alloc, &mut self.zone_names, arguments)?;
+        add_location(alloc, &mut self.location_names, kind, directive)?;
+        add_upstream(alloc, &mut self.upstream_names, kind, directive)?;
+        self.has_server = self.has_server || is_server(kind, directive);
         Ok(())
     }
 }

@@ -3,6 +3,7 @@
 
 mod argument;
 mod build;
+pub mod config;
 pub mod data;
 mod earlier;
 pub mod fault;
@@ -13,8 +14,12 @@ mod rules;
 mod walk;
 mod words;
 
+pub use config::config_of;
 pub use data::{
     Config, ConnData, ConnLimit, Level, MethodData, PeerData, ReqData, ReqLimit, ServerData, Upstream,
     ZoneSpec,
 };
 pub use fault::ConfigFault;
+
+#[cfg(test)]
+mod tests;

@@ -5,9 +5,9 @@ ghost use Rattle.zone_config.specs.declared.argument.Argument.{Argument};
 ghost use Rattle.zone_config.specs.declared.earlier.Earlier.{Earlier};
 ghost use Rattle.zone_config.specs.declared.earlier.ZoneNames.{ZoneNames};
 ghost use Rattle.zone_config.specs.declared.kind.Kind.{Kind};
-ghost use Rattle.zone_config.specs.Words.{is_called};
+ghost use Rattle.zone_config.specs.Words.{is_called, is_same_name};
 ghost use Rattle.zone_config.specs.Places.{Place};
-ghost use Rattle.zone_config.specs.Rules.{argument_rules, declares_one_of, first_broken, form_rules, has_bad_rate, has_bad_size, has_repeats, has_size, has_taken_name, is_again, is_backup, is_bad_key, is_delay, is_formed, is_in_list_of, is_large, is_name, is_once, is_other_method, is_out_of_range, is_primary, is_repeated, is_server_block, is_small, is_switch, is_too_many, is_twice, is_unknown, is_use_of, lacks_primary, limits_again, limits_by, location_name, misplaced, names_no_zone, order_rules, parameters, rules, second_server, uses_one_of};
+ghost use Rattle.zone_config.specs.Rules.{argument_rules, declares_one_of, first_broken, form_rules, has_bad_rate, has_bad_size, has_repeats, has_size, has_taken_name, is_again, is_backup, is_backup_word, is_bad_key, is_delay, is_formed, is_in_list_of, is_large, is_name, is_once, is_other_method, is_out_of_range, is_parameter, is_primary, is_repeated, is_server_block, is_small, is_switch, is_too_many, is_twice, is_unknown, is_use_of, lacks_primary, limits_again, limits_by, location_name, misplaced, names_no_zone, order_rules, parameters, rules, second_server, uses_one_of};
 ghost use Rattle.zone_config.specs.Views.{place_now};
 
 use crate::argument::Argument;
@@ -15,7 +15,7 @@ use crate::earlier::{Earlier, ZoneNames};
 use crate::kind::Kind;
 use crate::numbers::{is_large_size, is_number_in, is_size, is_small_size, rate_of, time_of};
 use crate::place::Spot;
-use crate::words::{arguments_of, first_of, has_block, has_called, inner_of, is_called, is_same_name, name_of, parameter_name, value_of};
+use crate::words::{arguments_of, behind_first, first_of, has_block, has_called, inner_of, is_called, is_same_name, name_of, parameter_name, value_of};
 use directive_text::Directive;
 use std::alloc::Global;
 use zone_key::{ExprFault, read_expr};
@@ -40,12 +40,19 @@ fn is_server_block(directive: &Directive) -> bool
     is_called(b"server", directive) && has_block(directive)
 }
 
+/// Whether a block has a `server` block.
+fn has_server_block(block: &[Directive]) -> bool
+    ensures { result ≡ list_any is_server_block block.now }
+{
+    block.iter().any(is_server_block)
+}
+
 /// Rule 2: a second `server` block in `http`.
 fn second_server(kind: Kind, directive: &Directive, before: &[Directive]) -> bool
     ensures { result ≡ second_server kind directive.now before.now }
 {
     match kind {
-        Kind::Server => has_block(directive) && before.iter().any(is_server_block),
+        Kind::Server => has_block(directive) && has_server_block(before),
         _ => false,
     }
 }
@@ -173,13 +180,20 @@ fn uses_one_of(names: &[Text], argument: &Argument) -> bool
     }
 }
 
+/// Whether one of the arguments uses one of the zones of these names.
+fn use_one_of(names: &[Text], arguments: &[Argument]) -> bool
+    ensures { result ≡ list_any (uses_one_of names.now) arguments.now }
+{
+    arguments.iter().any(|argument| uses_one_of(names, argument))
+}
+
 /// Rule 11: a limit names no zone of its kind in the text.
 fn names_no_zone(text: &ZoneNames, kind: Kind, arguments: &[Argument]) -> bool
     ensures { result ≡ names_no_zone text.now kind arguments.now }
 {
     match kind {
-        Kind::LimitReq => !arguments.iter().any(|argument| uses_one_of(text.req.as_slice(), argument)),
-        Kind::LimitConn => !arguments.iter().any(|argument| uses_one_of(text.conn.as_slice(), argument)),
+        Kind::LimitReq => !use_one_of(text.req.as_slice(), arguments),
+        Kind::LimitConn => !use_one_of(text.conn.as_slice(), arguments),
         _ => false,
     }
 }
@@ -221,14 +235,20 @@ fn is_use_of(zone: &Text, word: &Text) -> bool
     }
 }
 
+/// Whether one of the words of `limit_req` names this zone.
+fn has_use_of(zone: &Text, words: &[Text]) -> bool
+    ensures { result ≡ list_any (is_use_of zone.now) words.now }
+{
+    words.iter().any(|word| is_use_of(zone, word))
+}
+
 /// Whether a directive that limits requests, or connections, names this zone.
 fn limits_by(kind: Kind, zone: &Text, directive: &Directive) -> bool
     ensures { result ≡ limits_by kind zone.now directive.now }
 {
     match kind {
         Kind::LimitReq => {
-            is_called(b"limit_req", directive)
-                && arguments_of(directive).iter().any(|word| is_use_of(zone, word))
+            is_called(b"limit_req", directive) && has_use_of(zone, arguments_of(directive))
         }
         Kind::LimitConn => {
             is_called(b"limit_conn", directive)
@@ -238,12 +258,19 @@ fn limits_by(kind: Kind, zone: &Text, directive: &Directive) -> bool
     }
 }
 
+/// Whether one of the directives before names this zone.
+fn is_limited_by(kind: Kind, zone: &Text, before: &[Directive]) -> bool
+    ensures { result ≡ list_any (limits_by kind zone.now) before.now }
+{
+    before.iter().any(|directive| limits_by(kind, zone, directive))
+}
+
 /// The same zone twice in one block.
 fn limits_again(kind: Kind, before: &[Directive], argument: &Argument) -> bool
     ensures { result ≡ limits_again kind before.now argument.now }
 {
     match argument {
-        Argument::Use { name } => before.iter().any(|directive| limits_by(kind, name, directive)),
+        Argument::Use { name } => is_limited_by(kind, name, before),
         _ => false,
     }
 }
@@ -253,10 +280,7 @@ fn parameters(kind: Kind, words: &[Text]) -> &[Text]
     ensures { result.now ≡ parameters kind words.now }
 {
     match kind {
-        Kind::ReqZone | Kind::ConnZone | Kind::Peer => match words {
-            [] => &[],
-            [_, later @ ..] => later,
-        },
+        Kind::ReqZone | Kind::ConnZone | Kind::Peer => behind_first(words),
         Kind::LimitReq => words,
         _ => &[],
     }
@@ -269,12 +293,19 @@ fn is_delay(name: &[u8]) -> bool
     name == b"delay".as_slice() || name == b"nodelay".as_slice()
 }
 
+/// Whether one of the words gives this parameter.
+fn has_parameter(name: &[u8], words: &[Text]) -> bool
+    ensures { result ≡ list_any (is_parameter name.now) words.now }
+{
+    words.iter().any(|word| name == parameter_name(word.bytes()))
+}
+
 /// A parameter that is given again, but for `nodelay` and `delay`.
 fn is_repeated(word: &Text, words: &[Text]) -> bool
     ensures { result ≡ is_repeated word.now words.now }
 {
     let name = parameter_name(word.bytes());
-    !is_delay(name) && words.iter().any(|word| name == parameter_name(word.bytes()))
+    !is_delay(name) && has_parameter(name, words)
 }
 
 /// Whether a parameter is given twice, but for `nodelay` and `delay`.
@@ -291,23 +322,34 @@ fn has_repeats(words: &[Text]) -> bool
     false
 }
 
+/// Whether one of the arguments names a zone again.
+fn limit_again(kind: Kind, before: &[Directive], arguments: &[Argument]) -> bool
+    ensures { result ≡ list_any (limits_again kind before.now) arguments.now }
+{
+    arguments.iter().any(|argument| limits_again(kind, before, argument))
+}
+
 /// Rule 13: a directive, a zone of a limit or a parameter twice.
 fn is_twice(kind: Kind, arguments: &[Argument], place: &Spot<'_>) -> bool
     ensures { result ≡ is_twice kind arguments.now (place_now place.now) }
 {
     is_again(kind, place.directive, place.before)
         || has_repeats(parameters(kind, arguments_of(place.directive)))
-        || arguments.iter().any(|argument| limits_again(kind, place.before, argument))
+        || limit_again(kind, place.before, arguments)
+}
+
+/// Whether one of the words is `backup`.
+fn has_backup(words: &[Text]) -> bool
+    ensures { result ≡ list_any is_backup_word words.now }
+{
+    words.iter().any(|word| word.bytes() == b"backup".as_slice())
 }
 
 /// Whether a server belongs to the backup list.
 pub(crate) fn is_backup(directive: &Directive) -> bool
     ensures { result ≡ is_backup directive.now }
 {
-    match arguments_of(directive) {
-        [] => false,
-        [_, later @ ..] => later.iter().any(|word| word.bytes() == b"backup".as_slice()),
-    }
+    has_backup(behind_first(arguments_of(directive)))
 }
 
 /// Whether a directive is a server of this list.
@@ -350,13 +392,21 @@ pub(crate) fn location_name(alloc: Global, words: &[Text]) -> Result<Text, NoMem
     ensures { IfOk result (λ name. name ≡ location_name words.now) }
 {
     let mut name = Vec::new(alloc);
-    for (i, word) in words.iter().enumerate() {
-        if i > 0 {
+    if let [first, later @ ..] = words {
+        name.extend_from_slice(first.bytes())?;
+        for word in later {
             name.push(b' ')?;
+            name.extend_from_slice(word.bytes())?;
         }
-        name.extend_from_slice(word.bytes())?;
     }
     Ok(Text::from_vec(name))
+}
+
+/// Whether a name is one of these, without regard to the case of ASCII letters.
+fn is_one_of_upstreams(names: &[Text], name: &[u8]) -> bool
+    ensures { result ≡ list_any (is_same_name name.now) names.now }
+{
+    names.iter().any(|other| is_same_name(name, other.bytes()))
 }
 
 /// Rule 15: the name of an earlier location or upstream.
@@ -375,7 +425,7 @@ fn has_taken_name(
         }
         Kind::Upstream => {
             let name = first_of(arguments_of(directive));
-            Ok(earlier.upstream_names.as_slice().iter().any(|other| is_same_name(name, other.bytes())))
+            Ok(is_one_of_upstreams(earlier.upstream_names.as_slice(), name))
         }
         _ => Ok(false),
     }
@@ -414,12 +464,19 @@ pub(crate) fn is_primary(directive: &Directive) -> bool
     is_called(b"server", directive) && !is_backup(directive)
 }
 
+/// Whether a block has a server of the primary list.
+fn has_primary(block: &[Directive]) -> bool
+    ensures { result ≡ list_any is_primary block.now }
+{
+    block.iter().any(is_primary)
+}
+
 /// Rule 17: an upstream without a primary server.
 fn lacks_primary(kind: Kind, directive: &Directive) -> bool
     ensures { result ≡ lacks_primary kind directive.now }
 {
     match kind {
-        Kind::Upstream => !inner_of(directive).iter().any(is_primary),
+        Kind::Upstream => !has_primary(inner_of(directive)),
         _ => false,
     }
 }
@@ -440,27 +497,75 @@ fn form_rule(kind: Kind, place: &Spot<'_>) -> Option<u32>
     }
 }
 
+/// Whether one of the arguments is one that the directive doesn't have.
+fn any_unknown(arguments: &[Argument]) -> bool
+    ensures { result ≡ list_any is_unknown arguments.now }
+{
+    arguments.iter().any(is_unknown)
+}
+
+/// Whether one of the arguments is a size that is none.
+fn any_bad_size(arguments: &[Argument]) -> bool
+    ensures { result ≡ list_any has_bad_size arguments.now }
+{
+    arguments.iter().any(has_bad_size)
+}
+
+/// Whether one of the arguments is a size below the least.
+fn any_small_size(arguments: &[Argument]) -> bool
+    ensures { result ≡ list_any (has_size is_small) arguments.now }
+{
+    arguments.iter().any(has_small_size)
+}
+
+/// Whether one of the arguments is a size above the greatest.
+fn any_large_size(earlier: u64, arguments: &[Argument]) -> bool
+    ensures { result ≡ list_any (has_size (is_large earlier)) arguments.now }
+{
+    arguments.iter().any(|argument| has_large_size(earlier, argument))
+}
+
+/// Whether one of the arguments is a rate that is none.
+fn any_bad_rate(arguments: &[Argument]) -> bool
+    ensures { result ≡ list_any has_bad_rate arguments.now }
+{
+    arguments.iter().any(has_bad_rate)
+}
+
+/// Whether one of the arguments is out of its range or form.
+fn any_out_of_range(arguments: &[Argument]) -> bool
+    ensures { result ≡ list_any is_out_of_range arguments.now }
+{
+    arguments.iter().any(is_out_of_range)
+}
+
 /// The first rule that an argument by itself breaks.
 fn argument_rule(earlier: &Earlier, arguments: &[Argument]) -> Option<u32>
     ensures { (text : ZoneNames) (kind : Kind) (place : Place)
         → result ≡ first_broken argument_rules (record { text = text; earlier = earlier.now; kind = kind; arguments = arguments.now; place = place }) }
 {
-    let bytes = earlier.zone_bytes;
-    if arguments.iter().any(is_unknown) {
+    if any_unknown(arguments) {
         Some(5)
-    } else if arguments.iter().any(has_bad_size) {
+    } else if any_bad_size(arguments) {
         Some(6)
-    } else if arguments.iter().any(has_small_size) {
+    } else if any_small_size(arguments) {
         Some(7)
-    } else if arguments.iter().any(|argument| has_large_size(bytes, argument)) {
+    } else if any_large_size(earlier.zone_bytes, arguments) {
         Some(8)
-    } else if arguments.iter().any(has_bad_rate) {
+    } else if any_bad_rate(arguments) {
         Some(9)
-    } else if arguments.iter().any(is_out_of_range) {
+    } else if any_out_of_range(arguments) {
         Some(10)
     } else {
         None
     }
+}
+
+/// Whether one of the arguments declares one of the zones of these names.
+fn declare_one_of(names: &[Text], arguments: &[Argument]) -> bool
+    ensures { result ≡ list_any (declares_one_of names.now) arguments.now }
+{
+    arguments.iter().any(|argument| declares_one_of(names, argument))
 }
 
 /// The first rule of a directive among others that it breaks.
@@ -475,11 +580,10 @@ fn order_rule(
     ensures { IfOk result (λ rule. rule
         ≡ first_broken order_rules (record { text = text.now; earlier = earlier.now; kind = kind; arguments = arguments.now; place = place_now place.now })) }
 {
-    let names = earlier.zone_names.as_slice();
     if names_no_zone(text, kind, arguments) {
         return Ok(Some(11));
     }
-    if arguments.iter().any(|argument| declares_one_of(names, argument)) {
+    if declare_one_of(earlier.zone_names.as_slice(), arguments) {
         return Ok(Some(12));
     }
     if is_twice(kind, arguments, place) {

@@ -1,7 +1,7 @@
 ghost use Rattle.std.specs.Prelude.{◌≡◌, ◌+◌, ◌<◌, ◌==◌, length, map, is_some, IfSome, IsTrue, ◌≤◌};
 ghost use Rattle.std.specs.Option.{option_copied, option_map};
 ghost use Rattle.std.specs.List.{find, position, prefix_len};
-ghost use Rattle.zone_config.specs.Words.{arguments_of, cut, declared_by, declared_in, first_of, has_block, has_called, host_of, inner_of, is_called, is_name_byte, is_same_name, line_of, name_of, parameter, parameter_name, value_of};
+ghost use Rattle.zone_config.specs.Words.{arguments_of, behind_first, cut, declared_by, declared_in, first_of, has_block, has_called, host_of, inner_of, is_called, is_name_byte, is_same_name, line_of, name_of, parameter, parameter_name, value_of};
 ghost use Rattle.zone_config.specs.Views.{declared_now};
 
 use directive_text::Directive;
@@ -17,6 +17,16 @@ pub(crate) fn first_of(words: &[Text]) -> &[u8]
     }
 }
 
+/// The words behind the first.
+pub(crate) fn behind_first(words: &[Text]) -> &[Text]
+    ensures { result.now ≡ behind_first words.now }
+{
+    match words {
+        [] => &[],
+        [_, later @ ..] => later,
+    }
+}
+
 /// A directive's name: its first word.
 pub(crate) fn name_of(directive: &Directive) -> &[u8]
     ensures { result.now ≡ name_of directive.now }
@@ -28,10 +38,7 @@ pub(crate) fn name_of(directive: &Directive) -> &[u8]
 pub(crate) fn arguments_of(directive: &Directive) -> &[Text]
     ensures { result.now ≡ arguments_of directive.now }
 {
-    match directive.words.as_slice() {
-        [] => &[],
-        [_, arguments @ ..] => arguments,
-    }
+    behind_first(directive.words.as_slice())
 }
 
 /// Whether a directive has a block.
