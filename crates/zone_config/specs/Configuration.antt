@@ -229,9 +229,14 @@ level_of zones upstreams p = level_from zones upstreams p.directive (inherited (
 abbrev pub location_at : List ZoneSpec → List UpstreamData → Place → Option Level
 location_at zones upstreams p = elim (kind_at p) [ Location ↦ Some (level_of zones upstreams p) | _ ↦ None ]
 
+-- a level, if it is a server's
+abbrev pub server_if : Kind → Level → Option Level
+server_if Server level = Some level
+server_if _ level = None
+
 -- the level that a place declares, if it is the server
 abbrev pub server_at : List ZoneSpec → List UpstreamData → Place → Option Level
-server_at zones upstreams p = elim (kind_at p) [ Server ↦ Some (level_of zones upstreams p) | _ ↦ None ]
+server_at zones upstreams p = server_if (kind_at p) (level_of zones upstreams p)
 
 -- the first level of a server
 abbrev pub server_among : List ZoneSpec → List UpstreamData → List Place → Option Level

@@ -3,7 +3,6 @@ use Rattle.std.specs.Prelude.{ℕ, Bool, ◌&&◌, List, [], ◌∷◌, ◌++◌
 use Rattle.std.specs.Option.{option_map}
 use Rattle.directive_text.specs.declared.tree.Directive.{Directive}
 use Rattle.directive_text.specs.declared.tree.Directive.TheOpen.{Directive-F}
-use Rattle.directive_text.specs.declared.tree.Directive.TheViews.{roll-Directive}
 use Rattle.directive_text.specs.declared.tree.Directive.TheFolds.{fold-Directive}
 use Rattle.zone_config.specs.declared.kind.Context.{Context}
 use Rattle.zone_config.specs.declared.kind.Context.TheVariants.{Top}
@@ -73,37 +72,32 @@ scope_within scope d =
     option_map (λ context. record { context = context; block = inner_of d; sources = inherited (inner_of d) scope.sources })
     (context_within (kind_in scope d) (has_block d))
 
--- a directive, and the places that it gives in a block behind other directives
-pub record Walked : Type 0 where
-  pub directive : Directive
-  pub places : Scope → List Directive → List Place
+-- what a directive gives in a block, behind the directives before it
+abbrev pub Walk : Type 0
+Walk = Directive → Scope → List Directive → List Place
 
--- the places of a block's directives, behind others
-abbrev pub in_order : Scope → List Directive → List Walked → List Place
-in_order scope before [] = []
-in_order scope before (w ∷ ws) = w.places scope before ++ in_order scope (before ++ w.directive ∷ []) ws
+-- the places of a block's directives, each with its own walk, behind the directives before them
+abbrev pub in_order : Scope → List Directive → List Directive → List Walk → List Place
+in_order scope before (d ∷ ds) (walk ∷ walks) = walk d scope before ++ in_order scope (before ++ d ∷ []) ds walks
+in_order scope before _ _ = []
 
 -- the places inside a directive's block, where it is read
-abbrev pub inside : Option Scope → List Walked → List Place
-inside None ws = []
-inside (Some scope) ws = in_order scope [] ws
+abbrev pub inside : Option Scope → List Walk → List Place
+inside None walks = []
+inside (Some scope) walks = in_order scope [] scope.block walks
 
--- one directive, from what those of its block give: its own place, and then theirs
-abbrev pub walk_step : Directive-F Walked → Walked
-walk_step layer =
-    let d = roll-Directive (record { words = layer.words; line = layer.line; block = option_map (map (λ (w : Walked). w.directive)) layer.block }) in
-    record {
-      directive = d;
-      places = λ scope before. record { scope = scope; before = before; directive = d } ∷ inside (scope_within scope d) (unwrap_or layer.block []);
-    }
+-- a directive's place, and then those inside its block, from the walks of the directives there
+abbrev pub walk_step : Directive-F Walk → Walk
+walk_step layer d scope before =
+    record { scope = scope; before = before; directive = d } ∷ inside (scope_within scope d) (unwrap_or layer.block [])
 
--- a directive and its places
-abbrev pub walked : Directive → Walked
-walked = fold-Directive Walked walk_step
+-- the walk of a directive
+abbrev pub walked : Directive → Walk
+walked = fold-Directive Walk walk_step
 
 -- the places of directives in a block, behind others
 abbrev pub places_from : Scope → List Directive → List Directive → List Place
-places_from scope before ds = in_order scope before (map walked ds)
+places_from scope before ds = in_order scope before ds (map walked ds)
 
 -- the places of a tree
 abbrev pub places_of : List Directive → List Place

@@ -1,4 +1,4 @@
-ghost use Rattle.std.specs.Prelude.{◌≡◌, ◌++◌, None, IfOk, OnOk, MatchResult};
+ghost use Rattle.std.specs.Prelude.{◌≡◌, ◌≤◌, ◌++◌, None, IfOk, OnOk, MatchResult};
 ghost use Rattle.std.specs.Option.{option_to_list};
 ghost use Rattle.std.specs.List.{filter_map};
 ghost use Rattle.zone_config.specs.Places.{kind_at, places_of};
@@ -63,9 +63,12 @@ fn check_place(
     earlier: &mut Earlier,
     place: &Spot<'_>,
 ) -> Result<(), ConfigFault>
-    ensures { MatchResult result
-        (λ _. (fault_at text.now earlier.old (place_now place.now) ≡ None) × (earlier.new ≡ noted earlier.old (place_now place.now)))
+    requires { earlier.old.zone_bytes ≤ 268435456 }
+    ensures fault { MatchResult result
+        (λ _. fault_at text.now earlier.old (place_now place.now) ≡ None)
         (λ fault. FaultIs fault (fault_at text.now earlier.old (place_now place.now))) }
+    ensures noted { OnOk result (earlier.new ≡ noted earlier.old (place_now place.now)) }
+    ensures bytes { OnOk result (earlier.new.zone_bytes ≤ 268435456) }
 {
     let kind = kind_at(place);
     let arguments = meanings(alloc, kind, arguments_of(place.directive))?;
@@ -247,6 +250,16 @@ fn configured(alloc: Global, directives: &[Directive]) -> Result<Config, ConfigF
     }
 }
 
+/// The configuration of directives, or their first fault.
+fn read_directives(alloc: Global, directives: &[Directive]) -> Result<Config, ConfigFault>
+    ensures { MatchResult result (λ config. GivesConfig directives.now config)
+        (λ fault. ReadsFault directives.now fault) }
+{
+    let text = zones_named(alloc, directives)?;
+    check(alloc, directives, &text)?;
+    configured(alloc, directives)
+}
+
 /// The configuration that the directives of a text give, with inheritance done: a block without limits of its
 /// own has those of the block around it, and so for each status and each dry run by itself, as nginx's
 /// documentation of `ngx_http_limit_req_module` and `ngx_http_limit_conn_module` says.
@@ -258,8 +271,5 @@ pub fn config_of(alloc: Global, tree: &Tree) -> Result<Config, ConfigFault>
     ensures { MatchResult result (λ config. GivesConfig tree.now.directives config)
         (λ fault. ReadsFault tree.now.directives fault) }
 {
-    let directives = tree.directives.as_slice();
-    let text = zones_named(alloc, directives)?;
-    check(alloc, directives, &text)?;
-    configured(alloc, directives)
+    read_directives(alloc, tree.directives.as_slice())
 }

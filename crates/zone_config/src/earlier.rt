@@ -1,6 +1,6 @@
 ghost use Rattle.std.specs.Prelude.{◌≡◌, ◌+◌, ◌≤◌, ◌++◌, OnOk, is_some};
 ghost use Rattle.std.specs.List.{filter_map, find};
-ghost use Rattle.std.specs.Option.{option_copied};
+ghost use Rattle.std.specs.Option.{option_copied, option_to_list};
 ghost use Rattle.zone_config.specs.Arguments.{declared_name, declared_size};
 ghost use Rattle.zone_config.specs.Rules.{and_then_one, bytes_or_none, first_said, is_server, name_if_location, name_if_upstream, noted_behind, nothing};
 
@@ -168,6 +168,19 @@ fn is_server(kind: Kind, directive: &Directive) -> bool
     }
 }
 
+/// Adds the name of the zone that an argument declares, if it declares one.
+fn add_name(alloc: Global, names: &mut Items<Text>, argument: &Argument) -> Result<(), NoMemory>
+    ensures { OnOk result (names.new ≡ names.old ++ option_to_list (declared_name argument.now)) }
+{
+    match declared_name(argument) {
+        Some(name) => {
+            names.push(Text::of(alloc, name.bytes())?)?;
+            Ok(())
+        }
+        None => Ok(()),
+    }
+}
+
 /// Adds the names of all zones that arguments declare.
 pub(crate) fn add_declared(
     alloc: Global,
@@ -177,9 +190,7 @@ pub(crate) fn add_declared(
     ensures { OnOk result (names.new ≡ names.old ++ filter_map declared_name arguments.now) }
 {
     for argument in arguments {
-        if let Some(name) = declared_name(argument) {
-            names.push(Text::of(alloc, name.bytes())?)?;
-        }
+        add_name(alloc, names, argument)?;
     }
     Ok(())
 }
@@ -207,7 +218,8 @@ impl Earlier {
         directive: &Directive,
     ) -> Result<(), NoMemory>
         requires { self.old.zone_bytes + bytes_or_none (first_said declared_size arguments.now) ≤ 268435456 }
-        ensures { OnOk result (self.new ≡ noted_behind self.old kind arguments.now directive.now) }
+        ensures noted { OnOk result (self.new ≡ noted_behind self.old kind arguments.now directive.now) }
+        ensures bytes { OnOk result (self.new.zone_bytes ≤ 268435456) }
     {
         self.zone_bytes += bytes_declared(arguments);
         add_first(alloc, &mut self.zone_names, arguments)?;
