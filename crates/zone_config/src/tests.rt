@@ -227,38 +227,33 @@ fn push_number(alloc: Global, out: &mut Vec<u8>, number: u64) -> Result<(), Allo
 }
 
 /// The text of a case, with its repeated parts written out.
-fn expanded(alloc: Global, text: &[u8]) -> Result<Vec<u8>, AllocError> {
+fn expanded(alloc: Global, text: &str) -> Result<Vec<u8>, AllocError> {
     let mut out = Vec::new(alloc);
-    let mut parts = text.split(|byte| *byte == b'@');
-    if let Some(head) = parts.next() {
-        out.extend_from_slice(head)?;
-    }
-    for part in parts {
-        expand(&mut out, part)?;
+    for (i, part) in text.split('@').enumerate() {
+        if i == 0 {
+            out.extend_from_slice(part.as_bytes())?;
+        } else {
+            expand(&mut out, part)?;
+        }
     }
     Ok(out)
 }
 
 /// Adds a repeated part, and what stands behind it.
-fn expand(out: &mut Vec<u8>, part: &[u8]) -> Result<(), AllocError> {
-    let open = part.iter().position(|byte| *byte == b'(').unwrap_or(part.len());
-    let close = part.iter().position(|byte| *byte == b')').unwrap_or(part.len());
-    let mut count = 0u32;
-    for byte in &part[..open.min(part.len())] {
-        count = (count * 10 + u32::from(byte.wrapping_sub(b'0'))) % 1000;
-    }
-    if open < close && close < part.len() {
-        for i in 1..count + 1 {
-            push_piece(out, &part[open + 1..close], i % 100)?;
+fn expand(out: &mut Vec<u8>, part: &str) -> Result<(), AllocError> {
+    if let Some((count, rest)) = part.split_once('(') {
+        if let Some((piece, tail)) = rest.split_once(')') {
+            for i in 0..count.parse::<u32>().unwrap_or(0) {
+                push_piece(out, piece.as_bytes(), i + 1)?;
+            }
+            out.extend_from_slice(tail.as_bytes())?;
         }
-        out.extend_from_slice(&part[close + 1..])?;
     }
     Ok(())
 }
 
 /// Adds a piece with the two digits of a count in place of each `#`.
-fn push_piece(out: &mut Vec<u8>, piece: &[u8], i: u32) -> Result<(), AllocError>
-{
+fn push_piece(out: &mut Vec<u8>, piece: &[u8], i: u32) -> Result<(), AllocError> {
     for byte in piece {
         if *byte == b'#' {
             out.push(b'0' + (i / 10 % 10) as u8)?;
@@ -429,7 +424,7 @@ fn found(alloc: Global, text: &[u8], whole: bool) -> Result<Vec<u8>, AllocError>
 fn faults_are_first(rt: HostRuntime) -> Result<(), AllocError> {
     for case in FAULTS.split('|') {
         if let Some((text, want)) = case.split_once('^') {
-            let text = expanded(rt.alloc(), text.as_bytes())?;
+            let text = expanded(rt.alloc(), text)?;
             let got = found(rt.alloc(), text.as_slice(), false)?;
             assert!(rt; got.as_slice() == want.as_bytes(), "{case}");
         }
