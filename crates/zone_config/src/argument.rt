@@ -165,11 +165,7 @@ fn first_argument(alloc: Global, kind: Kind, word: &[u8]) -> Result<Argument, No
 }
 
 /// The arguments of a directive of this kind.
-pub(crate) fn meanings(
-    alloc: Global,
-    kind: Kind,
-    words: &[Text],
-) -> Result<Vec<Argument>, NoMemory>
+pub(crate) fn meanings(alloc: Global, kind: Kind, words: &[Text]) -> Result<Vec<Argument>, NoMemory>
     ensures { IfOk result (λ arguments. arguments.items ≡ meanings kind words.now) }
 {
     let mut arguments = Vec::new(alloc);

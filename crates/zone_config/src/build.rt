@@ -8,11 +8,17 @@ ghost use Rattle.zone_config.specs.Rules.{is_primary};
 ghost use Rattle.zone_config.specs.Configuration.{arguments_called, conn_limit, conn_zone, declared_or_none, delay_of, delay_with, in_32_bits, is_backup_server, is_down_word, is_upstream_called, is_zone_called, level_from, level_of, method_of, number_of, number_or, own_zone, peer_zone, peers_named, peers_of, req_limit, req_zone, server_of, status_of, switch_of, upstream_of, zone_name, zone_number};
 ghost use Rattle.zone_config.specs.Views.{declared_now, delay_now, place_now, sources_now};
 
-use crate::data::{ConnData, ConnLimit, Level, MethodData, PeerData, ReqData, ReqLimit, ServerData, Upstream, ZoneSpec};
+use crate::data::{
+    ConnData, ConnLimit, Level, MethodData, PeerData, ReqData, ReqLimit, ServerData, Upstream,
+    ZoneSpec,
+};
 use crate::numbers::{digits_of, rate_of, time_of, zone_size};
 use crate::place::{Origins, Spot, inherited};
 use crate::rules::{is_backup, is_primary, location_name};
-use crate::words::{Declaration, arguments_of, behind_first, declared_by, first_of, has_called, inner_of, is_called, is_same_name, parameter, value_of};
+use crate::words::{
+    Declaration, arguments_of, behind_first, declared_by, first_of, has_called, inner_of,
+    is_called, is_same_name, parameter, value_of,
+};
 use directive_text::Directive;
 use sqlite_items::Items;
 use std::alloc::Global;
@@ -26,7 +32,11 @@ pub const PAGE_SHIFT: u32 = 12;
 fn in_32_bits(count: usize) -> u32
     ensures { result ≡ in_32_bits count }
 {
-    if count < 4_294_967_295 { count as u32 } else { 4_294_967_295 }
+    if count < 4_294_967_295 {
+        count as u32
+    } else {
+        4_294_967_295
+    }
 }
 
 /// A number, and 0 where there is none.
@@ -308,14 +318,20 @@ fn own_zone(zones: &[ZoneSpec], block: &[Directive]) -> Option<u32>
 fn count_primary(block: &[Directive]) -> usize
     ensures { result ≡ count_by is_primary block.now }
 {
-    block.iter().filter(|directive| is_primary(directive)).count()
+    block
+        .iter()
+        .filter(|directive| is_primary(directive))
+        .count()
 }
 
 /// How many servers a block's backup list has.
 fn count_backup(block: &[Directive]) -> usize
     ensures { result ≡ count_by is_backup_server block.now }
 {
-    block.iter().filter(|directive| is_backup_server(directive)).count()
+    block
+        .iter()
+        .filter(|directive| is_backup_server(directive))
+        .count()
 }
 
 /// An upstream.
@@ -513,7 +529,9 @@ fn host_of(word: &[u8]) -> Option<&[u8]>
 fn upstream_called<'a>(upstreams: &'a [Upstream], name: &[u8]) -> Option<&'a Upstream>
     ensures { option_copied result ≡ find (is_upstream_called name.now) upstreams.now }
 {
-    upstreams.iter().find(|upstream| is_same_name(upstream.name.bytes(), name))
+    upstreams
+        .iter()
+        .find(|upstream| is_same_name(upstream.name.bytes(), name))
 }
 
 /// The zone of the upstream of a name.

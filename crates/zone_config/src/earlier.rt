@@ -62,7 +62,9 @@ fn declared_size(argument: &Argument) -> Option<&Text>
 fn with_name(arguments: &[Argument]) -> Option<&Argument>
     ensures { option_copied result ≡ find (λ a. is_some (declared_name a)) arguments.now }
 {
-    arguments.iter().find(|argument| declared_name(argument).is_some())
+    arguments
+        .iter()
+        .find(|argument| declared_name(argument).is_some())
 }
 
 /// The first name of a zone that arguments declare.
@@ -79,7 +81,9 @@ fn first_name(arguments: &[Argument]) -> Option<&Text>
 fn with_size(arguments: &[Argument]) -> Option<&Argument>
     ensures { option_copied result ≡ find (λ a. is_some (declared_size a)) arguments.now }
 {
-    arguments.iter().find(|argument| declared_size(argument).is_some())
+    arguments
+        .iter()
+        .find(|argument| declared_size(argument).is_some())
 }
 
 /// The first size of a zone that arguments declare.
@@ -106,11 +110,7 @@ fn bytes_declared(arguments: &[Argument]) -> u64
 }
 
 /// Adds the name of the zone that arguments declare, if they declare one.
-fn add_first(
-    alloc: Global,
-    names: &mut Items<Text>,
-    arguments: &[Argument],
-) -> Result<(), NoMemory>
+fn add_first(alloc: Global, names: &mut Items<Text>, arguments: &[Argument]) -> Result<(), NoMemory>
     ensures { OnOk result (names.new ≡ and_then_one names.old (first_said declared_name arguments.now)) }
 {
     match first_name(arguments) {

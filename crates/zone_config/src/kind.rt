@@ -172,7 +172,11 @@ pub(crate) fn kind_of(context: Context, name: &[u8]) -> Kind
     ensures { result ≡ kind_of context name.now }
 {
     match context {
-        Context::Top => if name == b"http".as_slice() { Kind::Http } else { elsewhere(name) },
+        Context::Top => if name == b"http".as_slice() {
+            Kind::Http
+        } else {
+            elsewhere(name)
+        },
         Context::Http => in_http(name),
         Context::Server => if name == b"location".as_slice() {
             Kind::Location

@@ -16,8 +16,8 @@ mod words;
 
 pub use config::config_of;
 pub use data::{
-    Config, ConnData, ConnLimit, Level, MethodData, PeerData, ReqData, ReqLimit, ServerData, Upstream,
-    ZoneSpec,
+    Config, ConnData, ConnLimit, Level, MethodData, PeerData, ReqData, ReqLimit, ServerData,
+    Upstream, ZoneSpec,
 };
 pub use fault::ConfigFault;
 

@@ -81,7 +81,11 @@ pub(crate) struct Counted<'a> {
 fn last_byte(word: &[u8]) -> u8
     ensures { result ≡ last_byte word.now }
 {
-    if word.is_empty() { 0 } else { word[word.len() - 1] }
+    if word.is_empty() {
+        0
+    } else {
+        word[word.len() - 1]
+    }
 }
 
 /// A word without its last byte, which has this worth.

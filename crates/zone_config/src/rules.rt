@@ -15,7 +15,10 @@ use crate::earlier::{Earlier, ZoneNames};
 use crate::kind::Kind;
 use crate::numbers::{is_large_size, is_number_in, is_size, is_small_size, rate_of, time_of};
 use crate::place::Spot;
-use crate::words::{arguments_of, behind_first, first_of, has_block, has_called, inner_of, is_called, is_same_name, name_of, parameter_name, value_of};
+use crate::words::{
+    arguments_of, behind_first, first_of, has_block, has_called, inner_of, is_called, is_same_name,
+    name_of, parameter_name, value_of,
+};
 use directive_text::Directive;
 use std::alloc::Global;
 use zone_key::{ExprFault, read_expr};
@@ -120,7 +123,10 @@ fn has_large_size(earlier: u64, argument: &Argument) -> bool
     ensures { result ≡ has_size (is_large earlier) argument.now }
 {
     match argument {
-        Argument::Zone { size, .. } | Argument::Size { size } => is_large_size(earlier, size.bytes()),
+        Argument::Zone { size, .. } | Argument::Size { size } => is_large_size(
+            earlier,
+            size.bytes(),
+        ),
         _ => false,
     }
 }
@@ -154,7 +160,9 @@ fn is_out_of_range(argument: &Argument) -> bool
     ensures { result ≡ is_out_of_range argument.now }
 {
     match argument {
-        Argument::Zone { name, .. } | Argument::Name { name } | Argument::Use { name } => !is_name(name.bytes()),
+        Argument::Zone { name, .. } | Argument::Name { name } | Argument::Use { name } => !is_name(
+            name.bytes(),
+        ),
         Argument::Number { text, low, most } => !is_number_in(*low, *most, text.bytes()),
         Argument::Switch { text } => !is_switch(text.bytes()),
         Argument::Time { text } => time_of(text.bytes()).is_none(),
@@ -184,7 +192,9 @@ fn uses_one_of(names: &[Text], argument: &Argument) -> bool
 fn use_one_of(names: &[Text], arguments: &[Argument]) -> bool
     ensures { result ≡ list_any (uses_one_of names.now) arguments.now }
 {
-    arguments.iter().any(|argument| uses_one_of(names, argument))
+    arguments
+        .iter()
+        .any(|argument| uses_one_of(names, argument))
 }
 
 /// Rule 11: a limit names no zone of its kind in the text.
@@ -251,8 +261,7 @@ fn limits_by(kind: Kind, zone: &Text, directive: &Directive) -> bool
             is_called(b"limit_req", directive) && has_use_of(zone, arguments_of(directive))
         }
         Kind::LimitConn => {
-            is_called(b"limit_conn", directive)
-                && zone.bytes() == first_of(arguments_of(directive))
+            is_called(b"limit_conn", directive) && zone.bytes() == first_of(arguments_of(directive))
         }
         _ => false,
     }
@@ -262,7 +271,9 @@ fn limits_by(kind: Kind, zone: &Text, directive: &Directive) -> bool
 fn is_limited_by(kind: Kind, zone: &Text, before: &[Directive]) -> bool
     ensures { result ≡ list_any (limits_by kind zone.now) before.now }
 {
-    before.iter().any(|directive| limits_by(kind, zone, directive))
+    before
+        .iter()
+        .any(|directive| limits_by(kind, zone, directive))
 }
 
 /// The same zone twice in one block.
@@ -297,7 +308,9 @@ fn is_delay(name: &[u8]) -> bool
 fn has_parameter(name: &[u8], words: &[Text]) -> bool
     ensures { result ≡ list_any (is_parameter name.now) words.now }
 {
-    words.iter().any(|word| name == parameter_name(word.bytes()))
+    words
+        .iter()
+        .any(|word| name == parameter_name(word.bytes()))
 }
 
 /// A parameter that is given again, but for `nodelay` and `delay`.
@@ -326,7 +339,9 @@ fn has_repeats(words: &[Text]) -> bool
 fn limit_again(kind: Kind, before: &[Directive], arguments: &[Argument]) -> bool
     ensures { result ≡ list_any (limits_again kind before.now) arguments.now }
 {
-    arguments.iter().any(|argument| limits_again(kind, before, argument))
+    arguments
+        .iter()
+        .any(|argument| limits_again(kind, before, argument))
 }
 
 /// Rule 13: a directive, a zone of a limit or a parameter twice.
@@ -342,7 +357,9 @@ fn is_twice(kind: Kind, arguments: &[Argument], place: &Spot<'_>) -> bool
 fn has_backup(words: &[Text]) -> bool
     ensures { result ≡ list_any is_backup_word words.now }
 {
-    words.iter().any(|word| word.bytes() == b"backup".as_slice())
+    words
+        .iter()
+        .any(|word| word.bytes() == b"backup".as_slice())
 }
 
 /// Whether a server belongs to the backup list.
@@ -356,21 +373,32 @@ pub(crate) fn is_backup(directive: &Directive) -> bool
 fn is_in_list_of(backup: bool, directive: &Directive) -> bool
     ensures { result ≡ is_in_list_of backup directive.now }
 {
-    is_called(b"server", directive) && if is_backup(directive) { backup } else { !backup }
+    is_called(b"server", directive)
+        && if is_backup(directive) {
+            backup
+        } else {
+            !backup
+        }
 }
 
 /// How many directives before are called so.
 fn count_called(name: &[u8], before: &[Directive]) -> usize
     ensures { result ≡ count_by (is_called name.now) before.now }
 {
-    before.iter().filter(|directive| is_called(name, directive)).count()
+    before
+        .iter()
+        .filter(|directive| is_called(name, directive))
+        .count()
 }
 
 /// How many directives before are servers of this list.
 fn count_servers(backup: bool, before: &[Directive]) -> usize
     ensures { result ≡ count_by (is_in_list_of backup) before.now }
 {
-    before.iter().filter(|directive| is_in_list_of(backup, directive)).count()
+    before
+        .iter()
+        .filter(|directive| is_in_list_of(backup, directive))
+        .count()
 }
 
 /// Rule 14: a zone, a server, a location or a limit more than there may be.
@@ -490,7 +518,11 @@ fn form_rule(kind: Kind, place: &Spot<'_>) -> Option<u32>
         Some(2)
     } else if is_misplaced(kind) {
         Some(3)
-    } else if is_formed(kind, arguments_of(place.directive).len(), has_block(place.directive)) {
+    } else if is_formed(
+        kind,
+        arguments_of(place.directive).len(),
+        has_block(place.directive),
+    ) {
         None
     } else {
         Some(4)
@@ -522,7 +554,9 @@ fn any_small_size(arguments: &[Argument]) -> bool
 fn any_large_size(earlier: u64, arguments: &[Argument]) -> bool
     ensures { result ≡ list_any (has_size (is_large earlier)) arguments.now }
 {
-    arguments.iter().any(|argument| has_large_size(earlier, argument))
+    arguments
+        .iter()
+        .any(|argument| has_large_size(earlier, argument))
 }
 
 /// Whether one of the arguments is a rate that is none.
@@ -565,7 +599,9 @@ fn argument_rule(earlier: &Earlier, arguments: &[Argument]) -> Option<u32>
 fn declare_one_of(names: &[Text], arguments: &[Argument]) -> bool
     ensures { result ≡ list_any (declares_one_of names.now) arguments.now }
 {
-    arguments.iter().any(|argument| declares_one_of(names, argument))
+    arguments
+        .iter()
+        .any(|argument| declares_one_of(names, argument))
 }
 
 /// The first rule of a directive among others that it breaks.

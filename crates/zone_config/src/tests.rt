@@ -1,5 +1,5 @@
-use crate::{Config, ConfigFault, Level, ZoneSpec, config_of};
 use crate::data::{MethodData, ServerData};
+use crate::{Config, ConfigFault, Level, ZoneSpec, config_of};
 use directive_text::read;
 use std::alloc::{AllocError, Global};
 
@@ -266,7 +266,11 @@ fn push_piece(out: &mut Vec<u8>, piece: &[u8], i: u32) -> Result<(), AllocError>
 }
 
 /// Adds the servers of a list.
-fn push_servers(alloc: Global, out: &mut Vec<u8>, servers: &[ServerData]) -> Result<(), AllocError> {
+fn push_servers(
+    alloc: Global,
+    out: &mut Vec<u8>,
+    servers: &[ServerData],
+) -> Result<(), AllocError> {
     for server in servers {
         out.push(b'(')?;
         out.extend_from_slice(server.address.bytes())?;

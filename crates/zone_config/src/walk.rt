@@ -44,7 +44,10 @@ impl<'a> Walk<'a> {
                 let before = &scope.block[..at];
                 self.open.push(Frame { scope, at: at + 1 })?;
                 if let Some(inner) = scope_within(&scope, directive) {
-                    self.open.push(Frame { scope: inner, at: 0 })?;
+                    self.open.push(Frame {
+                        scope: inner,
+                        at: 0,
+                    })?;
                 }
                 return Ok(Some(Spot {
                     scope,

@@ -87,7 +87,9 @@ pub(crate) fn value_of<'a>(prefix: &[u8], word: &'a [u8]) -> Option<&'a [u8]>
 fn word_with<'a>(prefix: &[u8], words: &'a [Text]) -> Option<&'a Text>
     ensures { option_copied result ≡ find (λ w. is_some (value_of prefix.now w)) words.now }
 {
-    words.iter().find(|word| value_of(prefix, word.bytes()).is_some())
+    words
+        .iter()
+        .find(|word| value_of(prefix, word.bytes()).is_some())
 }
 
 /// The value of the first argument that begins with this prefix.
@@ -144,7 +146,9 @@ pub(crate) fn declared_in(word: &[u8]) -> Option<Declaration<'_>>
 fn declaring_word(words: &[Text]) -> Option<&Text>
     ensures { option_copied result ≡ find (λ w. is_some (declared_in w)) words.now }
 {
-    words.iter().find(|word| declared_in(word.bytes()).is_some())
+    words
+        .iter()
+        .find(|word| declared_in(word.bytes()).is_some())
 }
 
 /// The first argument that is `zone=NAME:SIZE`.
