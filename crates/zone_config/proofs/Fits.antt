@@ -1,5 +1,5 @@
 -- What is known of a directive that breaks no rule.
-use Rattle.std.proofs.Common.{◌≡◌, ℕ, zero, suc, ◌+◌, ◌≤◌, Bool, true, false, cond, List, [], ◌∷◌, ◌++◌, Option, None, Some, unwrap_or, is_some, refl, sym, ◌∙◌, ap, subst, arith}
+use Rattle.std.proofs.Common.{◌≡◌, ℕ, zero, suc, ◌+◌, ◌≤◌, Bool, true, false, cond, List, [], ◌∷◌, ◌++◌, Option, None, Some, unwrap_or, is_some, refl, ◌∙◌, ap, subst, arith}
 use Rattle.std.specs.Prelude.{◌||◌}
 use Rattle.std.specs.Option.{option_map_or, option_and_then}
 use Rattle.std.specs.List.{list_any, find, slice_get}
@@ -7,7 +7,7 @@ use Rattle.std.proofs.lemmas.Bool.Decides.{nat_tests}
 use Rattle.zone_config.specs.declared.argument.Argument.{Argument}
 use Rattle.zone_config.specs.Numbers.{size_of, up_to}
 use Rattle.zone_config.specs.Arguments.{declared_size}
-use Rattle.zone_config.specs.Rules.{Rule, Seen, rules, form_rules, argument_rules, order_rules, first_broken, first_said, bytes_or_none, has_size, is_large, of_arguments}
+use Rattle.zone_config.specs.Rules.{Rule, Seen, rules, first_broken, first_said, bytes_or_none, has_size, is_large, of_arguments}
 
 -- a rule that isn't broken, and those behind it
 passed : (b : Bool) (n : ℕ) (rest : Option ℕ) → cond b (Some n) rest ≡ None → (b ≡ false) × (rest ≡ None)

@@ -3,14 +3,13 @@ use Rattle.std.proofs.Common.{◌≡◌, ℕ, zero, suc, ◌+◌, ◌<◌, ◌�
 use Rattle.std.specs.Option.{option_map}
 use Rattle.std.proofs.lemmas.List.{take_more}
 use Rattle.directive_text.specs.declared.tree.Directive.{Directive}
-use Rattle.directive_text.specs.declared.tree.Directive.TheOpen.{Directive-F}
 use Rattle.directive_text.specs.declared.tree.Directive.TheViews.{out-Directive}
 use Rattle.directive_text.specs.declared.tree.Directive.TheFolds.{fold_out-Directive, map-Directive}
 use Rattle.zone_config.specs.declared.kind.Context.{Context}
 use Rattle.zone_config.specs.declared.place.Space.{Space}
 use Rattle.zone_config.specs.declared.walk.Frame.{Frame}
 use Rattle.zone_config.specs.Words.{inner_of, has_block}
-use Rattle.zone_config.specs.Places.{Place, Scope, Sources, Walk, walk_step, walked, in_order, inside, places_from, scope_within, context_within, kind_in, inherited}
+use Rattle.zone_config.specs.Places.{Scope, Sources, Walk, walk_step, walked, inside, places_from, scope_within, context_within, kind_in, inherited}
 use Rattle.zone_config.specs.Views.{scope_now}
 use Rattle.zone_config.specs.Walking.{frame_left, places_left}
 

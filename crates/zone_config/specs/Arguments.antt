@@ -5,7 +5,7 @@ use Rattle.zone_config.specs.declared.kind.Kind.{Kind}
 use Rattle.zone_config.specs.declared.kind.Kind.TheVariants as kind
 use Rattle.zone_config.specs.declared.argument.Argument.{Argument}
 use Rattle.zone_config.specs.declared.argument.Argument.TheVariants.{Key, Zone, Name, Size, Use, Rate, Number, Switch, Time, Address, Known, Unknown}
-use Rattle.zone_config.specs.Words.{Declared, declared_in, value_of}
+use Rattle.zone_config.specs.Words.{declared_in, value_of}
 
 -- what a word is where it begins with this prefix, and what it is else
 abbrev pub valued : List ℕ → (List ℕ → Argument) → List ℕ → Argument → Argument

@@ -1,5 +1,5 @@
 -- The conditions that each configuration of a text meets.
-use Rattle.std.specs.Prelude.{ℕ, ◌≡◌, ◌≢◌, ◌≤◌, ◌<◌, ◌*◌, Bool, true, List, [], ◌∷◌, Option, None, Some, IfSome, length, map, slice_get}
+use Rattle.std.specs.Prelude.{ℕ, ◌≡◌, ◌≢◌, ◌≤◌, List, Option, Some, IfSome, length, slice_get}
 use Rattle.std.specs.List.{All, AllPairs, sum_by}
 use Rattle.zone_key.specs.Printing.{IsExpr}
 use Rattle.zone_config.specs.declared.data.ZoneSpec.{ZoneSpec}

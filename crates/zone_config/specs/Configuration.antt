@@ -1,5 +1,5 @@
 -- The configuration that a tree without faults gives, with inheritance done.
-use Rattle.std.specs.Prelude.{ℕ, ◌≡◌, ◌+◌, ◌*◌, Bool, true, false, ◌&&◌, not, List, [], ◌∷◌, Option, None, Some, length, map, min, codes, is_some, unwrap_or, if◌then◌else◌}
+use Rattle.std.specs.Prelude.{ℕ, ◌≡◌, ◌*◌, Bool, true, false, ◌&&◌, List, [], ◌∷◌, Option, None, Some, map, min, codes, is_some, unwrap_or, if◌then◌else◌}
 use Rattle.std.specs.Option.{option_map, option_and_then}
 use Rattle.std.specs.List.{filter, filter_map, find, position, list_any, count_by}
 use Rattle.zone_key.specs.Expr.{is_same, expr_of}
@@ -8,9 +8,6 @@ use Rattle.zone_config.specs.declared.kind.Kind.{Kind}
 use Rattle.zone_config.specs.declared.kind.Kind.TheVariants.{Unnamed, Server, Upstream, Location, ReqZone, ConnZone, PeerZone}
 use Rattle.zone_config.specs.declared.data.ZoneSpec.{ZoneSpec}
 use Rattle.zone_config.specs.declared.data.ZoneSpec.TheVariants.{Req, Conn, Peer}
-use Rattle.zone_config.specs.declared.data.ReqData.{ReqData}
-use Rattle.zone_config.specs.declared.data.ConnData.{ConnData}
-use Rattle.zone_config.specs.declared.data.PeerData.{PeerData}
 use Rattle.zone_config.specs.declared.data.ServerData.{ServerData}
 use Rattle.zone_config.specs.declared.data.MethodData.{MethodData}
 use Rattle.zone_config.specs.declared.data.MethodData.TheVariants.{Round, Least}
@@ -19,9 +16,9 @@ use Rattle.zone_config.specs.declared.data.ConnLimit.{ConnLimit}
 use Rattle.zone_config.specs.declared.data.Level.{Level}
 use Rattle.zone_config.specs.declared.data.Upstream.{Upstream as UpstreamData}
 use Rattle.zone_config.specs.declared.data.Config.{Config}
-use Rattle.zone_config.specs.Words.{first_of, behind_first, name_of, arguments_of, line_of, has_block, inner_of, is_called, has_called, value_of, parameter, declared_by, Declared, is_same_name, host_of}
+use Rattle.zone_config.specs.Words.{first_of, behind_first, arguments_of, line_of, inner_of, is_called, has_called, value_of, parameter, declared_by, Declared, is_same_name, host_of}
 use Rattle.zone_config.specs.Numbers.{digits_of, rate_of, time_of}
-use Rattle.zone_config.specs.Places.{Place, Sources, no_sources, inherited, kind_at, places_of}
+use Rattle.zone_config.specs.Places.{Place, Sources, inherited, kind_at}
 use Rattle.zone_config.specs.Rules.{is_backup, is_primary, location_name, bytes_or_none}
 
 -- a number of at most 2^30, and 0 where there is none

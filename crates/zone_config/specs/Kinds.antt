@@ -1,5 +1,5 @@
 -- Which directives are read in which context.
-use Rattle.std.specs.Prelude.{ℕ, Bool, true, false, ◌||◌, List, [], ◌∷◌, Option, None, Some, codes, if◌then◌else◌}
+use Rattle.std.specs.Prelude.{ℕ, Bool, ◌||◌, List, Option, None, Some, codes, if◌then◌else◌}
 use Rattle.zone_key.specs.Expr.{is_same}
 use Rattle.zone_config.specs.declared.kind.Context.{Context}
 use Rattle.zone_config.specs.declared.kind.Context.TheVariants.{Top, Http, Server, Location, Upstream}

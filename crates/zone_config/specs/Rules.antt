@@ -1,13 +1,13 @@
 -- The rules that directives must keep: each is a test of one place, and of what stands before it.
-use Rattle.std.specs.Prelude.{ℕ, ◌+◌, Bool, true, false, ◌==◌, ◌&&◌, ◌||◌, not, nat_eq, nat_lt, nat_le, List, [], ◌∷◌, ◌++◌, Option, None, Some, length, codes, is_some, is_none, unwrap_or, map, count_by, if◌then◌else◌}
+use Rattle.std.specs.Prelude.{ℕ, ◌+◌, Bool, true, false, ◌==◌, ◌&&◌, ◌||◌, not, nat_lt, nat_le, List, [], ◌∷◌, ◌++◌, Option, None, Some, length, codes, is_some, is_none, unwrap_or, count_by, if◌then◌else◌}
 use Rattle.std.specs.Option.{option_map, option_map_or, option_and_then}
 use Rattle.std.specs.List.{list_any, find, filter_map, flat_map}
 use Rattle.zone_key.specs.Expr.{is_same, expr_of}
 use Rattle.directive_text.specs.declared.tree.Directive.{Directive}
 use Rattle.zone_config.specs.declared.kind.Kind.{Kind}
-use Rattle.zone_config.specs.declared.kind.Kind.TheVariants.{Unnamed, Misplaced, Http, Server, Upstream, Location, ReqZone, ConnZone, LimitReq, LimitConn, Status, DryRun, ProxyPass, PeerZone, Peer, LeastConn, OtherMethod}
+use Rattle.zone_config.specs.declared.kind.Kind.TheVariants.{Misplaced, Http, Server, Upstream, Location, ReqZone, ConnZone, LimitReq, LimitConn, Status, DryRun, ProxyPass, PeerZone, Peer, LeastConn, OtherMethod}
 use Rattle.zone_config.specs.declared.argument.Argument.{Argument}
-use Rattle.zone_config.specs.declared.argument.Argument.TheVariants.{Key, Zone, Name, Size, Use, Rate, Number, Switch, Time, Address, Known, Unknown}
+use Rattle.zone_config.specs.declared.argument.Argument.TheVariants.{Key, Zone, Name, Use, Rate, Number, Switch, Time, Address, Unknown}
 use Rattle.zone_config.specs.declared.earlier.Earlier.{Earlier}
 use Rattle.zone_config.specs.declared.earlier.ZoneNames.{ZoneNames}
 use Rattle.zone_config.specs.Words.{first_of, behind_first, name_of, arguments_of, line_of, has_block, inner_of, is_called, has_called, value_of, parameter_name, is_same_name}

@@ -1,5 +1,4 @@
 -- What references in the code point to.
-use Rattle.directive_text.specs.declared.tree.Directive.{Directive}
 use Rattle.zone_config.specs.declared.words.Declaration.{Declaration}
 use Rattle.zone_config.specs.declared.numbers.Counted.{Counted}
 use Rattle.zone_config.specs.declared.place.Origins.{Origins}

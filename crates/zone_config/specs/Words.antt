@@ -1,5 +1,5 @@
 -- The words of a directive, and what stands in them.
-use Rattle.std.specs.Prelude.{ℕ, ◌+◌, ◌-◌, Bool, ◌==◌, nat_eq, List, [], ◌∷◌, Option, None, Some, length, take, drop, codes, is_some, unwrap_or, not, if◌then◌else◌}
+use Rattle.std.specs.Prelude.{ℕ, ◌+◌, Bool, ◌==◌, nat_eq, List, [], ◌∷◌, Option, None, Some, length, take, drop, codes, is_some, unwrap_or, not, if◌then◌else◌}
 use Rattle.std.specs.Option.{option_map, option_and_then}
 use Rattle.std.specs.List.{list_any, find, position, prefix_len, starts_with}
 use Rattle.std.specs.Str.{str_eq_ignore_ascii_case}

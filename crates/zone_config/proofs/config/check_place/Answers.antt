@@ -1,4 +1,4 @@
-use Rattle.std.proofs.Common.{◌≡◌, ◌+◌, ◌≤◌, List, sym, ◌∙◌, subst}
+use Rattle.std.proofs.Common.{◌+◌, ◌≤◌, List, sym, ◌∙◌, subst}
 use Rattle.zone_config.specs.declared.argument.Argument.{Argument}
 use Rattle.zone_config.specs.Arguments.{declared_size}
 use Rattle.zone_config.specs.Rules.{Seen, bytes_or_none, first_said}

@@ -1,4 +1,4 @@
-use Rattle.std.proofs.Common.{◌≡◌, None, sym, ◌∙◌, ap, subst}
+use Rattle.std.proofs.Common.{◌≡◌, None, subst}
 use Rattle.zone_config.specs.declared.earlier.ZoneNames.{ZoneNames}
 use Rattle.zone_config.specs.Places.{places_of}
 use Rattle.zone_config.specs.Rules.{first_fault, nothing}

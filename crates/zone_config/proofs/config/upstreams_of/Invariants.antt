@@ -1,8 +1,7 @@
-use Rattle.std.proofs.Common.{◌≡◌, ◌+◌, ◌++◌, ◌≤◌, length, min}
-use Rattle.std.specs.List.{filter_map, count_by}
+use Rattle.std.proofs.Common.{◌≡◌, ◌++◌, length}
+use Rattle.std.specs.List.{filter_map}
 use Rattle.zone_config.specs.Places.{places_of}
-use Rattle.zone_config.specs.Rules.{conn_names, first_fault, nothing, req_names}
-use Rattle.zone_config.specs.Configuration.{is_passed, location_at, passed_among, server_among, upstream_at, zone_at}
+use Rattle.zone_config.specs.Configuration.{upstream_at}
 use Rattle.zone_config.specs.Walking.{places_left}
 use Rattle.zone_config.proofs.config.upstreams_of.Given as goal
 
