@@ -1,0 +1,4 @@
+mod Walks
+mod Steps
+mod Fits
+mod Answered

@@ -1,0 +1,11 @@
+pub mod Words
+pub mod Numbers
+pub mod Kinds
+pub mod Arguments
+pub mod Places
+pub mod Rules
+pub mod Configuration
+pub mod Conditions
+pub mod Reading
+pub mod Views
+pub mod Walking
