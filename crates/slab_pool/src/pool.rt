@@ -1,6 +1,6 @@
 ghost use Rattle.std.specs.Prelude.{◌≡◌, ℕ, ◌+◌, ◌/◌, ◌<◌, ◌≤◌, ◌↔◌, [], length, replicate, slice_index, slice_set, IfOk, IfSome, IsOk, MatchOption, MatchResult, OnErr, OnOk, Some, None};
 ghost use Rattle.zone_region.specs.Words.{SetsWord, word_at};
-ghost use Rattle.slab_model.specs.Geometry.{greatest_zone, class_of, pages_of};
+ghost use Rattle.slab_model.specs.Geometry.{greatest_zone, class_count, pages_of};
 ghost use Rattle.slab_model.specs.State.{Slab, fresh_slab, stat_of};
 ghost use Rattle.slab_model.specs.Counting.{free_pages as free_pages_of};
 ghost use Rattle.slab_model.specs.Grant.{grant as granted, block_bytes};
@@ -15,6 +15,8 @@ ghost use Rattle.slab_pool.specs.Live.{block_words, rest_of, KeepsPages, KeepsPa
 use crate::clear::clear_block;
 use crate::grants::grant;
 use crate::returns::give_back;
+use crate::stats::stat;
+use slab_model::Stat;
 use slab_pages::{DATA_WORD, Geometry, LOG_CTX_WORD, Pages};
 use std::alloc::Global;
 use std::marker::Model;
@@ -81,6 +83,14 @@ impl Pool {
         self.pages.word_count()
     }
 
+    /// The statistics of a class, which is below 9 (`ngx_slab_stat_t`).
+    pub fn stats(&self, class: u32) -> Stat
+        requires { class < class_count self.now.shape }
+        ensures { (slab : Slab) → LaysPool self.now slab → result ≡ stat_of slab class }
+    {
+        stat(&self.pages, class)
+    }
+
     /// Word `w` of the zone, of a block or not.
     pub fn raw(&self, w: u64) -> u64
         requires { w < length self.now.words }
@@ -89,14 +99,12 @@ impl Pool {
         self.pages.word(w)
     }
 
-    /// Grants a block of at least `size` bytes, 1 to 67,108,864, for `ngx_slab_alloc`: from the first free run that has
-    /// as many whole pages. None exactly where the slab has no block for it, and then no block changes.
-    ///
-    /// So far it serves sizes above 2,048 alone.
+    /// Grants a block of at least `size` bytes, 1 to 67,108,864 (`ngx_slab_alloc`). Up to 2,048 bytes it is the lowest free
+    /// block in the first page of the size's class that has one, or the first block of a free page. More are whole pages,
+    /// from the first free run that has as many. None exactly where the slab has no block for it, and then no block changes.
     pub fn alloc(&mut self, size: u64) -> Option<Block>
         requires some { 0 < size }
         requires small { size ≤ greatest_zone }
-        requires whole { class_of self.old.shape size ≡ None }
         ensures block { (slab : Slab) → LaysPool self.old slab → offset_of result ≡ (granted slab size).0 }
         ensures laid { (slab : Slab) → LaysPool self.old slab → LaysPool self.new (granted slab size).1 }
         ensures words { (slab : Slab) → LaysPool self.old slab →
@@ -112,7 +120,6 @@ impl Pool {
     pub fn calloc(&mut self, size: u64) -> Option<Block>
         requires some { 0 < size }
         requires small { size ≤ greatest_zone }
-        requires whole { class_of self.old.shape size ≡ None }
         ensures block { (slab : Slab) → LaysPool self.old slab → offset_of result ≡ (granted slab size).0 }
         ensures laid { (slab : Slab) → LaysPool self.old slab → LaysPool self.new (granted slab size).1 }
         ensures words { (slab : Slab) → LaysPool self.old slab →
