@@ -17,3 +17,4 @@ pub mod ClassGrants
 pub mod BehindLemmas
 pub mod NewPage
 pub mod ClassReturns
+pub mod RefusalLemmas

@@ -12,3 +12,4 @@ pub mod Bits
 pub mod Steps
 pub mod Pool
 pub mod Live
+pub mod Refusals

@@ -1,6 +1,6 @@
 ghost use Rattle.std.specs.Prelude.{◌≡◌, ℕ, ◌+◌, ◌*◌, ◌/◌, ◌<◌, ◌≤◌, [], List, IsTrue, ◌↔◌};
 ghost use Rattle.slab_model.specs.Geometry.{IsInLimits, blocks_in_page as blocks_of, first_index as first_of, kind_of, small};
-ghost use Rattle.slab_model.specs.Numbers.{with_number, without};
+ghost use Rattle.slab_model.specs.Numbers.{is_member, with_number, without};
 ghost use Rattle.slab_pages.specs.Places.{bitmap_words as bitmap_words_of, page_word as page_word_of};
 ghost use Rattle.slab_pages.specs.SlabLayout.{LaysBits};
 ghost use Rattle.slab_pool.specs.Bits.{bits_word, bits_limit, HasShift, IsBitsWord, HasBits};
@@ -90,6 +90,17 @@ pub(crate) fn first_unused(pages: &Pages, class: u32, page: u64, from: u64) -> u
         }
     }
     blocks_in_page(shape_of(pages), class)
+}
+
+// The index is used.
+pub(crate) fn is_used(pages: &Pages, class: u32, page: u64, index: u64) -> bool
+    requires taken { IsTaken pages.now page }
+    requires bits { ((used : List ℕ) × HasBits pages.now.words pages.now.shape page class used) }
+    requires low { first_of pages.now.shape class ≤ index }
+    requires high { index < blocks_of pages.now.shape class }
+    ensures { (used : List ℕ) → HasBits pages.now.words pages.now.shape page class used → result ≡ is_member index used }
+{
+    bits(pages, class, page, index / 64) >> (index % 64) & 1 == 1
 }
 
 // The index becomes used.

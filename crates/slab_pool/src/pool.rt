@@ -5,15 +5,19 @@ ghost use Rattle.slab_model.specs.State.{Slab, fresh_slab, stat_of};
 ghost use Rattle.slab_model.specs.Counting.{free_pages as free_pages_of};
 ghost use Rattle.slab_model.specs.Grant.{grant as granted, block_bytes};
 ghost use Rattle.slab_model.specs.Return.{give_back as given_back};
+ghost use Rattle.slab_model.specs.Blocks.{IsLive};
 ghost use Rattle.slab_model.specs.Inside.{offset_of};
 ghost use Rattle.slab_pages.specs.Shapes.{shape_in};
 ghost use Rattle.slab_pages.specs.Places.{log_ctx_word, data_word};
 ghost use Rattle.slab_pages.specs.SlabLayout.{IsOpened};
 ghost use Rattle.slab_pool.specs.Pool.{LaysPool};
+ghost use Rattle.slab_pool.specs.Refusals.{fault_in, refusal as refusal_of};
 ghost use Rattle.slab_pool.specs.Live.{block_words, rest_of, KeepsPages, KeepsPagesBut, GrantsWords, ReturnsWords, SameBlockWords};
 
 use crate::clear::clear_block;
+use crate::fault::FreeFault;
 use crate::grants::grant;
+use crate::refusals::refusal;
 use crate::returns::give_back;
 use crate::stats::stat;
 use slab_model::Stat;
@@ -142,16 +146,47 @@ impl Pool {
         }
     }
 
-    /// Gives a live block back (`ngx_slab_free`).
-    ///
-    /// So far it takes blocks of whole pages alone.
+    /// Gives a live block back (`ngx_slab_free`). A page that was full comes to the head of its class's list, and a page
+    /// without a live block to the free runs.
     pub fn free(&mut self, b: Block)
-        requires { 512 ≤ length (block_words self.old b.at) }
+        requires { 0 < length (block_words self.old b.at) }
         ensures laid { (slab : Slab) → LaysPool self.old slab → LaysPool self.new (given_back slab b.at) }
         ensures words { ReturnsWords (block_words self.old) (block_words self.new) b.at }
         ensures kept { KeepsPages self.old self.new }
     {
         give_back(&mut self.pages, b.at);
+    }
+
+    /// Gives back the live block that begins at this byte offset, and refuses an offset where none begins. The refusals
+    /// are tried in this order, and after one the pool is as before:
+    ///
+    /// - `Outside`: the offset is before the first page or behind the last one.
+    /// - `WrongChunk`, in a page of a class: no block of its size begins there, or it is one of those that hold the
+    ///   page's own bits.
+    /// - `AlreadyFree`, in a page of a class: that block isn't used.
+    /// - `WrongChunk`, in another page: the page doesn't begin there.
+    /// - `PageAlreadyFree`, in another page: the page is free.
+    /// - `WrongPage`, in another page: the page is a later page of a used run.
+    ///
+    /// They are those of `ngx_slab_free_locked`: outside of pool, wrong chunk, chunk is already free, page is already
+    /// free and pointer to wrong page.
+    pub fn try_free(&mut self, offset: u64) -> Result<(), FreeFault>
+        ensures refused { (slab : Slab) → LaysPool self.old slab → fault_in result ≡ refusal_of slab offset }
+        ensures live { (slab : Slab) → LaysPool self.old slab → IsOk result ↔ IsLive slab offset }
+        ensures laid { (slab : Slab) → LaysPool self.old slab → OnOk result (LaysPool self.new (given_back slab offset)) }
+        ensures words { MatchResult result
+            (λ _. ReturnsWords (block_words self.old) (block_words self.new) offset)
+            (λ _. SameBlockWords (block_words self.old) (block_words self.new)) }
+        ensures kept { KeepsPages self.old self.new }
+        ensures unchanged { OnErr result (self.new ≡ self.old) }
+    {
+        match refusal(&self.pages, offset) {
+            Some(fault) => Err(fault),
+            None => {
+                give_back(&mut self.pages, offset);
+                Ok(())
+            }
+        }
     }
 
     /// Names the context and the name block of the zone in the header's words `data` and `log_ctx`, and changes no
