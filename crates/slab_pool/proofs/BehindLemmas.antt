@@ -1,5 +1,5 @@
 -- What the steps of a grant and of a return leave of the pages.
-use Rattle.std.proofs.Common.{ℕ, ◌≡◌, ◌≢◌, ◌⊎◌, ◌+◌, ◌*◌, ◌/◌, ◌<◌, ◌≤◌, Bool, true, false, ◌||◌, ltb, List, length, get_or, sym, ap, subst, ◌∙◌, refl, arith, inl, inr}
+use Rattle.std.proofs.Common.{ℕ, ◌≡◌, ◌⊎◌, ◌+◌, ◌*◌, ◌<◌, ◌≤◌, Bool, true, false, ◌||◌, ltb, List, length, get_or, ap, subst, ◌∙◌, refl, arith, inl, inr}
 use Rattle.std.proofs.lemmas.Bool.{cases_lt}
 use Rattle.std.proofs.lemmas.Grind.{common_steps}
 use Rattle.zone_region.specs.Members.{In}
@@ -10,12 +10,12 @@ use Rattle.slab_model.specs.Geometry.{IsInLimits, small, kind_of, pages_of, star
 use Rattle.slab_model.specs.Runs.{AreSound}
 use Rattle.slab_model.specs.State.{Slab, page_at}
 use Rattle.slab_model.proofs.ClassLemmas.{zone}
-use Rattle.slab_pages.specs.Places.{Image, KeepsOthers, log_ctx_word, data_word, descriptor_word, page_word, bitmap_words}
+use Rattle.slab_pages.specs.Places.{Image, KeepsOthers, log_ctx_word, data_word, page_word, bitmap_words}
 use Rattle.slab_pages.specs.Frames.{ChangesStat}
 use Rattle.slab_pages.proofs.FrameLemmas.{pages-behind}
 use Rattle.slab_pages.proofs.SetLemmas.{list_word-past, run_word-before, run_word-past}
 use Rattle.slab_pool.specs.Pool.{LaysPool}
-use Rattle.slab_pool.specs.Live.{is_bitmap_word, is_layout_word, KeepsPages}
+use Rattle.slab_pool.specs.Live.{is_bitmap_word, KeepsPages}
 use Rattle.slab_pool.specs.Steps.{IsOutside, ChangesBits, ChangesLinks, KeepsBehind}
 use Rattle.slab_pool.proofs.RestLemmas.{bitmap-belongs, few_words}
 

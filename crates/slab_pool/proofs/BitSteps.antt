@@ -1,5 +1,5 @@
 -- What the steps on a page's bits read and write.
-use Rattle.std.proofs.Common.{ℕ, ◌≡◌, ◌≢◌, ◌⊎◌, ◌↔◌, ◌+◌, ◌-◌, ◌*◌, ◌/◌, ◌%◌, ◌^◌, ◌<◌, ◌≤◌, true, false, ◌&&◌, ◌||◌, not, eqb, bit_and, bit_or, Bool, List, [], ◌∷◌, length, get_or, set, sym, ap, subst, ◌∙◌, refl, arith, inl, inr}
+use Rattle.std.proofs.Common.{ℕ, ◌≡◌, ◌≢◌, ◌⊎◌, ◌+◌, ◌-◌, ◌*◌, ◌/◌, ◌%◌, ◌^◌, ◌<◌, ◌≤◌, true, ◌&&◌, ◌||◌, not, eqb, bit_and, bit_or, Bool, List, [], ◌∷◌, length, get_or, set, sym, ap, subst, ◌∙◌, refl, arith, inl, inr}
 use Rattle.std.specs.Int.{bit_at, bit_not, w64}
 use Rattle.std.proofs.lemmas.Bool.{cases_lt, cases_eq, cases_Bool}
 use Rattle.std.proofs.lemmas.Grind.{common_steps}
@@ -7,11 +7,11 @@ use Rattle.std.proofs.lemmas.Nat.{one_shl, or_lt, pow_below, pow_pos}
 use Rattle.std.proofs.lemmas.Nat.Bits.{bit_at-lt, bit_at-zero, bit_at_ones, bit_at_ones_above, same_from_bits_below}
 use Rattle.zone_region.specs.Members.{In}
 use Rattle.slab_model.specs.declared.shape.Shape.{Shape}
-use Rattle.slab_model.specs.Geometry.{IsInLimits, Kind, small, exact, big, kind_of, pages_of, first_index, blocks_in_page, usable_blocks}
+use Rattle.slab_model.specs.Geometry.{Kind, small, kind_of, pages_of, first_index, blocks_in_page}
 use Rattle.slab_model.specs.Numbers.{is_member, with_number, without}
 use Rattle.slab_model.proofs.ClassLemmas.{zone}
 use Rattle.slab_model.proofs.NumberLemmas.{member, is_member-with, is_member-without, In-without}
-use Rattle.slab_pages.specs.Places.{Image, page_limit, descriptor_word, page_word, bitmap_words, descriptor, slab_at}
+use Rattle.slab_pages.specs.Places.{Image, descriptor_word, page_word, bitmap_words, descriptor, slab_at}
 use Rattle.slab_pages.specs.Layout.{MaySet}
 use Rattle.slab_pages.specs.SlabLayout.{LaysBits}
 use Rattle.slab_pages.proofs.PlaceLemmas.{descriptor-word}
@@ -19,10 +19,10 @@ use Rattle.slab_pages.proofs.SetLemmas.{may_set-past, may_set-used}
 use Rattle.slab_pages.proofs.WriteLemmas.{get-written, get-read, length-written}
 use Rattle.slab_pool.specs.WordBits.{IsLowestClear}
 use Rattle.slab_pool.specs.Bits.{bits_word, bits_limit, HasShift, IsBitsWord, HasBits}
-use Rattle.slab_pool.specs.Steps.{IsTaken, KeepsRuns, IsOutside, ChangesBits, SetsBits, IsFirstUnused}
-use Rattle.slab_pool.proofs.KindLemmas.{kind-small, kind-exact, kind-big, numbers, one_word, small_words}
+use Rattle.slab_pool.specs.Steps.{IsTaken, ChangesBits, SetsBits, IsFirstUnused}
+use Rattle.slab_pool.proofs.KindLemmas.{kind-small, kind-exact, kind-big, numbers, one_word}
 use Rattle.slab_pool.proofs.BitLemmas.{KindAt, at_small, at_exact, at_big, kind_at, small_word, bits_word-is, bits_word-all, IsBitsWord-kept, IsBitsWord-mark, IsBitsWord-clear}
-use Rattle.slab_pool.proofs.ListLemmas.{taken-room, taken-later, keeps-then}
+use Rattle.slab_pool.proofs.ListLemmas.{taken-room}
 
 -- ---- places
 

@@ -1,5 +1,5 @@
 -- Where the blocks of a page of a class begin.
-use Rattle.std.proofs.Common.{ℕ, ◌≡◌, ◌+◌, ◌*◌, ◌<◌, ◌≤◌, ◌^◌, ap, arith}
+use Rattle.std.proofs.Common.{ℕ, ◌≡◌, ◌+◌, ◌*◌, ◌<◌, ◌^◌, ap, arith}
 use Rattle.slab_model.specs.Geometry.{class_size, blocks_in_page, page_offset}
 use Rattle.slab_model.proofs.ClassLemmas.{zone, cuts}
 use Rattle.slab_model.proofs.BlockLemmas.{block_end}

@@ -1,28 +1,24 @@
 -- A grant of a class: what its steps leave of the slab.
-use Rattle.std.proofs.Common.{ℕ, ◌≡◌, ◌≢◌, ◌⊎◌, ◌+◌, ◌-◌, ◌*◌, ◌/◌, ◌<◌, ◌≤◌, ◌^◌, Bool, true, false, not, ◌&&◌, ◌||◌, cond, eqb, Option, Some, None, List, [], ◌∷◌, length, get_or, set, get_or-set_same, get_or-set_other, sym, ap, subst, ◌∙◌, refl, arith, inl, inr}
-use Rattle.std.proofs.lemmas.Bool.{cases_eq, cases_lt, cases_Bool}
-use Rattle.std.proofs.lemmas.List.{same_lists, length-set}
+use Rattle.std.proofs.Common.{ℕ, ◌≡◌, ◌≢◌, ◌⊎◌, ◌+◌, ◌/◌, ◌<◌, ◌≤◌, Bool, true, false, ◌||◌, cond, eqb, Some, List, ◌∷◌, length, set, sym, ap, subst, ◌∙◌, refl, arith, inl, inr}
+use Rattle.std.proofs.lemmas.Bool.{cases_lt}
 use Rattle.std.proofs.lemmas.Grind.{common_steps}
 use Rattle.zone_region.specs.Members.{In, IsDistinct}
 use Rattle.slab_model.specs.declared.shape.Shape.{Shape}
 use Rattle.slab_model.specs.declared.runs.Run.{Run}
 use Rattle.slab_model.specs.declared.stat.Stat.{Stat}
-use Rattle.slab_model.specs.declared.page.PageState.{PageState}
-use Rattle.slab_model.specs.declared.page.PageState.TheVariants.{Free, First, Later, Class}
-use Rattle.slab_model.specs.Geometry.{IsInLimits, small, kind_of, pages_of, start_of, first_index, blocks_in_page, usable_blocks, block_offset}
+use Rattle.slab_model.specs.declared.page.PageState.TheVariants.{Later, Class}
+use Rattle.slab_model.specs.Geometry.{IsInLimits, kind_of, pages_of, first_index, blocks_in_page, usable_blocks, block_offset}
 use Rattle.slab_model.specs.Numbers.{is_member, with_number, without}
-use Rattle.slab_model.specs.Runs.{is_covered, first_fit, take_run}
-use Rattle.slab_model.specs.State.{Slab, pages_in, classes_in, page_at, list_of, stat_of, fill_pages}
-use Rattle.slab_model.specs.Blocks.{lowest_unused, is_full, used_in, first_unused}
-use Rattle.slab_model.specs.Counting.{is_free, count_grant, count_fail}
-use Rattle.slab_model.specs.Soundness.{IsSound, has_room}
-use Rattle.slab_model.specs.Grant.{grant_in_page, grant_in_new_page, grant_run}
-use Rattle.slab_model.proofs.ClassLemmas.{zone, cuts}
+use Rattle.slab_model.specs.State.{Slab, pages_in, page_at, list_of, stat_of}
+use Rattle.slab_model.specs.Blocks.{lowest_unused, is_full, used_in}
+use Rattle.slab_model.specs.Counting.{is_free, count_grant}
+use Rattle.slab_model.specs.Soundness.{IsSound}
+use Rattle.slab_model.specs.Grant.{grant_in_page}
 use Rattle.slab_model.proofs.NumberLemmas.{member, not_member, is_member-with, without-none, member_not, first_unused-low, first_unused-high, first_unused-unused}
-use Rattle.slab_model.proofs.StateLemmas.{lowest-is, lowest-in, not_full, not_full-one, used-usable}
-use Rattle.slab_model.proofs.SoundLemmas.{listed-is, IsSound-in_page, IsSound-failed, IsSound-new_page}
-use Rattle.slab_model.proofs.Bounds.{small_stat, offsets}
-use Rattle.slab_pages.specs.Places.{Image, descriptor_word, class_head, page_word, bitmap_words, descriptor, next_at, prev_at}
+use Rattle.slab_model.proofs.StateLemmas.{lowest-is, lowest-in, not_full, used-usable}
+use Rattle.slab_model.proofs.SoundLemmas.{listed-is, IsSound-in_page}
+use Rattle.slab_model.proofs.Bounds.{small_stat}
+use Rattle.slab_pages.specs.Places.{Image, class_head, descriptor, next_at, prev_at}
 use Rattle.slab_pages.specs.Layout.{LaysRuns}
 use Rattle.slab_pages.specs.Frames.{ChangesStat}
 use Rattle.slab_pages.specs.SlabLayout.{LaysStat, LaysClassPage, LaysSlab, type_of}
@@ -32,12 +28,12 @@ use Rattle.slab_pages.proofs.TakeLemmas.{uncovered}
 use Rattle.slab_pool.specs.Bits.{HasBits}
 use Rattle.slab_pool.specs.Links.{Linked}
 use Rattle.slab_pool.specs.Pool.{LaysPool}
-use Rattle.slab_pool.specs.Steps.{HasRuns, IsTaken, HasList, KeepsRuns, ChangesBits, ChangesLinks, Unlinks, Pushes, IsFirstUnused, LeavesIfFull, stays, leaves, Answers, begun, BeginsPage, KeepsBehind}
+use Rattle.slab_pool.specs.Steps.{HasRuns, IsTaken, HasList, KeepsRuns, ChangesBits, ChangesLinks, Unlinks, IsFirstUnused, LeavesIfFull, stays, leaves, Answers, KeepsBehind}
 use Rattle.slab_pool.specs.Live.{KeepsPages}
-use Rattle.slab_pool.proofs.KindLemmas.{numbers, kind-exact}
+use Rattle.slab_pool.proofs.KindLemmas.{numbers}
 use Rattle.slab_pool.proofs.RunLemmas.{pool-runs}
-use Rattle.slab_pool.proofs.BehindLemmas.{behind-bits, behind-links, behind-stat, behind-runs, behind-then, behind-same, keeps-before, keeps-after}
-use Rattle.slab_pool.proofs.StepLemmas.{Placed, placed, class_in-zone, first_class, later_class, with_page, with_list, LaysSlab-bits, placed-page, Linked-of, LaysSlab-links, placed-list}
+use Rattle.slab_pool.proofs.BehindLemmas.{behind-bits, behind-links, behind-stat, behind-then, behind-same, keeps-before}
+use Rattle.slab_pool.proofs.StepLemmas.{Placed, placed, class_in-zone, later_class, with_page, with_list, LaysSlab-bits, Linked-of, LaysSlab-links, placed-list}
 
 -- ---- what a pool's words say of a class
 

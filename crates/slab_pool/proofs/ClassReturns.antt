@@ -1,15 +1,14 @@
 -- A block of a class comes back: what the steps leave of the slab.
-use Rattle.std.proofs.Common.{ℕ, ◌≡◌, ◌≢◌, ◌⊎◌, ◌+◌, ◌-◌, ◌*◌, ◌/◌, ◌%◌, ◌<◌, ◌≤◌, ◌^◌, Bool, true, false, not, ◌&&◌, cond, eqb, List, [], ◌∷◌, length, get_or, set, sym, ap, subst, ◌∙◌, refl, arith, inl, inr}
+use Rattle.std.proofs.Common.{ℕ, ◌≡◌, ◌≢◌, ◌⊎◌, ◌%◌, ◌<◌, ◌≤◌, Bool, true, false, not, ◌&&◌, cond, eqb, List, [], ◌∷◌, length, get_or, set, sym, ap, subst, ◌∙◌, refl, arith, inl, inr}
 use Rattle.std.specs.Prelude.{IsTrue}
 use Rattle.std.proofs.lemmas.Bool.{cases_eq, cases_lt, cases_Bool}
-use Rattle.std.proofs.lemmas.List.{set-set, length-set}
 use Rattle.std.proofs.lemmas.Grind.{common_steps}
-use Rattle.zone_region.specs.Members.{In, IsDistinct}
+use Rattle.zone_region.specs.Members.{In}
 use Rattle.slab_model.specs.declared.shape.Shape.{Shape}
 use Rattle.slab_model.specs.declared.runs.Run.{Run}
 use Rattle.slab_model.specs.declared.stat.Stat.{Stat}
 use Rattle.slab_model.specs.declared.page.PageState.{PageState}
-use Rattle.slab_model.specs.declared.page.PageState.TheVariants.{Free, First, Later, Class}
+use Rattle.slab_model.specs.declared.page.PageState.TheVariants.{Free, First, Class}
 use Rattle.slab_model.specs.Geometry.{IsInLimits, Kind, small, exact, big, kind_of, pages_of, first_index, blocks_in_page, usable_blocks}
 use Rattle.slab_model.specs.Numbers.{is_member, without}
 use Rattle.slab_model.specs.Runs.{AreSound, is_covered, give_run}
@@ -21,7 +20,7 @@ use Rattle.slab_model.specs.Return.{give_in_page}
 use Rattle.slab_model.proofs.NumberLemmas.{member, is_member-without, In-without, length-without}
 use Rattle.slab_model.proofs.StateLemmas.{not_full, has_room-own, used-usable, used-distinct, full_length}
 use Rattle.slab_model.proofs.SoundLemmas.{stat_covers, IsSound-give_in_page}
-use Rattle.slab_pages.specs.Places.{Image, KeepsOthers, descriptor_word, class_head, descriptor, slab_at, next_at, prev_at}
+use Rattle.slab_pages.specs.Places.{Image, KeepsOthers, class_head, descriptor, next_at, prev_at}
 use Rattle.slab_pages.specs.Layout.{LaysRuns, HasUsedRun, IsBusy, CanComeBack, MayPut}
 use Rattle.slab_pages.specs.Frames.{ChangesStat, SameWords}
 use Rattle.slab_pages.specs.SlabLayout.{LaysStat, LaysClassPage, LaysSlab, type_of}
@@ -39,8 +38,8 @@ use Rattle.slab_pool.proofs.RunLemmas.{pool-runs}
 use Rattle.slab_pool.proofs.ListLemmas.{taken-later}
 use Rattle.slab_pool.proofs.LinkLemmas.{node_after, descriptor-low}
 use Rattle.slab_pool.proofs.BehindLemmas.{behind-bits, behind-links, behind-stat, behind-runs, behind-then, keeps-before}
-use Rattle.slab_pool.proofs.ClassGrants.{class-taken, pool-list, pool-bits, pool-has_runs, list-below, bits-stat, links-stat, links-stay, counted, runs-at}
-use Rattle.slab_pool.proofs.StepLemmas.{Placed, placed, class_in-zone, same_class, first_class, later_class, with_page, with_list, LaysSlab-bits, placed-page, Linked-of, of-Linked, LaysSlab-links, placed-list, page_own, page_other, list_own, list_other, run_class}
+use Rattle.slab_pool.proofs.ClassGrants.{class-taken, pool-list, pool-bits, list-below, bits-stat, links-stat, counted, runs-at}
+use Rattle.slab_pool.proofs.StepLemmas.{Placed, placed, class_in-zone, same_class, later_class, with_page, with_list, LaysSlab-bits, placed-page, Linked-of, of-Linked, LaysSlab-links, page_own, page_other, list_own, list_other, run_class}
 
 differ : {t : Bool} → t ≡ true → t ≡ false → ⊥
 differ x y = cc

@@ -1,5 +1,5 @@
 -- A page leaves a class's list, and comes to its head, by the words that the steps write.
-use Rattle.std.proofs.Common.{ℕ, ◌≡◌, ◌≢◌, ◌⊎◌, ◌+◌, ◌-◌, ◌*◌, ◌/◌, ◌<◌, ◌≤◌, ◌^◌, List, [], ◌∷◌, ◌++◌, not, eqb, cond, length, get_or, set, sym, ap, subst, ◌∙◌, refl, arith, inl, inr}
+use Rattle.std.proofs.Common.{ℕ, ◌≡◌, ◌≢◌, ◌⊎◌, ◌+◌, ◌-◌, ◌/◌, ◌<◌, ◌≤◌, ◌^◌, List, [], ◌∷◌, ◌++◌, length, get_or, set, sym, ap, subst, ◌∙◌, refl, arith, inl, inr}
 use Rattle.std.proofs.lemmas.Bool.{cases_eq}
 use Rattle.std.proofs.lemmas.Grind.{common_steps}
 use Rattle.zone_region.specs.Members.{In, IsDistinct}
@@ -17,7 +17,7 @@ use Rattle.slab_pages.proofs.PlaceLemmas.{descriptor-word, descriptor-injective}
 use Rattle.slab_pages.proofs.SetLemmas.{may_set-before, may_set-used}
 use Rattle.slab_pages.proofs.WriteLemmas.{get-written, get-read, length-written}
 use Rattle.slab_pool.specs.Links.{Linked, IsNode, LinksPages}
-use Rattle.slab_pool.specs.Steps.{HasRuns, IsTaken, IsTakenNode, HasList, KeepsRuns, ChangesLinks, Unlinks, Pushes}
+use Rattle.slab_pool.specs.Steps.{HasRuns, IsTaken, IsTakenNode, HasList, KeepsRuns, Unlinks, Pushes}
 use Rattle.slab_pool.proofs.LinkLemmas.{descriptor-not_head, nodes_apart, linked-next, linked-prev, first_linked, TakesOut, taken_out, PutsFirst, put_first}
 
 -- ---- pages that aren't free

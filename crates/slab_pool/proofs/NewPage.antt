@@ -1,43 +1,37 @@
 -- A grant of a class in a free page.
-use Rattle.std.proofs.Common.{ℕ, ◌≡◌, ◌≢◌, ◌⊎◌, ◌+◌, ◌*◌, ◌/◌, ◌<◌, ◌≤◌, ◌^◌, Bool, true, false, Option, Some, None, List, [], ◌∷◌, length, get_or, set, sym, ap, subst, ◌∙◌, refl, arith, inl, inr}
-use Rattle.std.proofs.lemmas.List.{set-set, length-set}
-use Rattle.zone_region.specs.Members.{In, IsDistinct}
-use Rattle.zone_region.specs.declared.blocks.Block.{Block}
+use Rattle.std.proofs.Common.{ℕ, ◌≡◌, ◌≢◌, ◌+◌, ◌/◌, ◌<◌, Bool, true, false, Option, Some, None, List, [], ◌∷◌, length, set, sym, ap, subst, ◌∙◌, refl, arith, inl, inr}
+use Rattle.std.proofs.lemmas.List.{set-set}
+use Rattle.zone_region.specs.Members.{In}
 use Rattle.slab_model.specs.declared.shape.Shape.{Shape}
 use Rattle.slab_model.specs.declared.runs.Run.{Run}
 use Rattle.slab_model.specs.declared.stat.Stat.{Stat}
 use Rattle.slab_model.specs.declared.page.PageState.{PageState}
-use Rattle.slab_model.specs.declared.page.PageState.TheVariants.{Free, First, Later, Class}
-use Rattle.slab_model.specs.Geometry.{IsInLimits, small, exact, kind_of, pages_of, first_index, blocks_in_page, usable_blocks, block_offset}
+use Rattle.slab_model.specs.declared.page.PageState.TheVariants.{First, Later, Class}
+use Rattle.slab_model.specs.Geometry.{small, exact, kind_of, first_index, usable_blocks, block_offset}
 use Rattle.slab_model.specs.Runs.{first_fit, take_run}
 use Rattle.slab_model.specs.State.{Slab, pages_in, page_at, list_of, stat_of}
-use Rattle.slab_model.specs.Blocks.{is_full}
 use Rattle.slab_model.specs.Counting.{is_free, count_grant, count_fail}
 use Rattle.slab_model.specs.Soundness.{IsSound}
 use Rattle.slab_model.specs.Grant.{grant_in_new_page, grant_run}
-use Rattle.slab_model.specs.Inside.{offset_of}
-use Rattle.slab_model.proofs.ClassLemmas.{zone, cuts}
 use Rattle.slab_model.proofs.PageLemmas.{page_at-use_first}
 use Rattle.slab_model.proofs.RunLemmas.{first_fit-in}
 use Rattle.slab_model.proofs.StateLemmas.{not_full-one}
 use Rattle.slab_model.proofs.SoundLemmas.{IsSound-failed, IsSound-new_page}
-use Rattle.slab_pages.specs.Places.{Image, KeepsOthers, head_word, descriptor_word, class_head, descriptor, next_at}
+use Rattle.slab_pages.specs.Places.{Image, KeepsOthers, class_head}
 use Rattle.slab_pages.specs.Layout.{LaysRuns, HasUsedRun}
 use Rattle.slab_pages.specs.Frames.{ChangesStat}
-use Rattle.slab_pages.specs.SlabLayout.{LaysStat, LaysClassPage, LaysSlab, type_of}
+use Rattle.slab_pages.specs.SlabLayout.{LaysStat, LaysClassPage, LaysSlab}
 use Rattle.slab_pages.proofs.FrameLemmas.{pages-behind}
 use Rattle.slab_pool.specs.Bits.{HasBits}
-use Rattle.slab_pool.specs.Links.{Linked}
 use Rattle.slab_pool.specs.Pool.{LaysPool}
 use Rattle.slab_pool.specs.Live.{KeepsPages}
-use Rattle.slab_pool.specs.Steps.{HasRuns, IsTaken, HasList, KeepsRuns, ChangesBits, ChangesLinks, Pushes, Answers, begun, BeginsPage, KeepsBehind}
-use Rattle.slab_pool.proofs.KindLemmas.{numbers, kind-exact}
+use Rattle.slab_pool.specs.Steps.{IsTaken, HasList, KeepsRuns, ChangesBits, ChangesLinks, Pushes, Answers, begun, BeginsPage, KeepsBehind}
+use Rattle.slab_pool.proofs.KindLemmas.{kind-exact}
 use Rattle.slab_pool.proofs.RunLemmas.{pool-runs, run-granted}
 use Rattle.slab_pool.proofs.BitSteps.{changes-both}
-use Rattle.slab_pool.proofs.ListLemmas.{taken-later}
 use Rattle.slab_pool.proofs.BehindLemmas.{behind-bits, behind-links, behind-stat, behind-runs, behind-then, keeps-after}
-use Rattle.slab_pool.proofs.ClassGrants.{pool-taken, pool-list, pool-stat, bits-stat, links-stat, counted, runs-at}
-use Rattle.slab_pool.proofs.StepLemmas.{Placed, placed, first_class, with_page, with_list, LaysSlab-bits, placed-page, LaysSlab-links, page_own, page_other}
+use Rattle.slab_pool.proofs.ClassGrants.{pool-taken, pool-list, bits-stat, links-stat, counted, runs-at}
+use Rattle.slab_pool.proofs.StepLemmas.{placed, first_class, with_page, with_list, LaysSlab-bits, placed-page, LaysSlab-links, page_own}
 
 differ : {t : Bool} → t ≡ true → t ≡ false → ⊥
 differ x y = cc

@@ -1,6 +1,5 @@
 -- Why no live block begins at an offset, as the words tell it.
-use Rattle.std.proofs.Common.{ℕ, ◌≡◌, ◌≢◌, ◌⊎◌, ◌↔◌, ◌+◌, ◌-◌, ◌*◌, ◌/◌, ◌%◌, ◌^◌, ◌<◌, ◌≤◌, Bool, true, false, not, ◌&&◌, ◌||◌, eqb, leb, ltb, cond, List, Option, Some, None, Result, Ok, Err, sym, ap, subst, ◌∙◌, refl, arith, inl, inr}
-use Rattle.std.specs.Prelude.{IsOk}
+use Rattle.std.proofs.Common.{ℕ, ◌≡◌, ◌≢◌, ◌⊎◌, ◌↔◌, ◌+◌, ◌-◌, ◌*◌, ◌/◌, ◌%◌, ◌^◌, ◌<◌, ◌≤◌, Bool, true, false, ◌&&◌, ◌||◌, eqb, leb, ltb, cond, List, Some, None, sym, ap, subst, ◌∙◌, refl, arith, inl, inr}
 use Rattle.std.specs.Int.{bit_at}
 use Rattle.std.proofs.lemmas.Bool.{cases_lt, cases_eq, cases_Bool}
 use Rattle.std.proofs.lemmas.List.{get_or_past}
@@ -9,22 +8,21 @@ use Rattle.std.proofs.lemmas.Grind.{common_steps}
 use Rattle.slab_model.specs.declared.shape.Shape.{Shape}
 use Rattle.slab_model.specs.declared.page.PageState.{PageState}
 use Rattle.slab_model.specs.declared.page.PageState.TheVariants.{Free, First, Later, Class}
-use Rattle.slab_model.specs.Geometry.{IsInLimits, kind_of, class_size, first_index, blocks_in_page, start_of, pages_of, page_size}
+use Rattle.slab_model.specs.Geometry.{kind_of, class_size, first_index, blocks_in_page, start_of, pages_of, page_size}
 use Rattle.slab_model.specs.Numbers.{is_member}
-use Rattle.slab_model.specs.Soundness.{IsSound, AreUsed}
+use Rattle.slab_model.specs.Soundness.{IsSound}
 use Rattle.slab_model.specs.State.{Slab, page_at, pages_in}
-use Rattle.slab_model.specs.Blocks.{IsLive, live_bytes, live_in_page, page_number, place_in_page}
+use Rattle.slab_model.specs.Blocks.{IsLive, live_in_page, page_number, place_in_page}
 use Rattle.slab_model.proofs.ClassLemmas.{cuts, zone}
 use Rattle.slab_model.proofs.NumberLemmas.{member}
 use Rattle.slab_model.proofs.StateLemmas.{used-usable}
-use Rattle.slab_model.proofs.BlockLemmas.{live_bytes-low, live_bytes-in, offset_is}
+use Rattle.slab_model.proofs.BlockLemmas.{live_bytes-low, live_bytes-in}
 use Rattle.slab_pages.specs.Places.{Image, descriptor, slab_at}
 use Rattle.slab_pool.specs.declared.fault.FreeFault.{FreeFault}
 use Rattle.slab_pool.specs.declared.fault.FreeFault.TheVariants.{Outside, WrongChunk, AlreadyFree, PageAlreadyFree, WrongPage}
 use Rattle.slab_pool.specs.Bits.{bits_word, HasBits}
-use Rattle.slab_pool.specs.Live.{is_used_at}
 use Rattle.slab_pool.specs.Pool.{LaysPool}
-use Rattle.slab_pool.specs.Refusals.{refusal_in_class, refusal_in_page, refusal, fault_in}
+use Rattle.slab_pool.specs.Refusals.{refusal_in_class, refusal_in_page, refusal}
 use Rattle.slab_pool.proofs.RunLemmas.{pool-unique}
 use Rattle.slab_pool.proofs.DecodeLemmas.{is_used_at-is, free-type, first-type, later-type}
 

@@ -5,7 +5,7 @@ use Rattle.std.proofs.lemmas.Grind.{common_steps}
 use Rattle.slab_model.specs.declared.shape.Shape.{Shape}
 use Rattle.slab_model.specs.declared.page.PageState.{PageState}
 use Rattle.slab_model.specs.declared.page.PageState.TheVariants.{Free, First, Later, Class}
-use Rattle.slab_model.specs.Geometry.{Kind, small, exact, big, kind_of, class_size, blocks_in_page, start_of, page_offset}
+use Rattle.slab_model.specs.Geometry.{Kind, kind_of, class_size, blocks_in_page, start_of, page_offset}
 use Rattle.slab_model.specs.Numbers.{is_member, without}
 use Rattle.slab_model.specs.State.{Slab, page_at, pages_in}
 use Rattle.slab_model.specs.Blocks.{IsLive, live_bytes, live_in_page, page_number, place_in_page}

@@ -1,28 +1,23 @@
 -- A slab that the words lay out stays laid out where the bits or the links of one page of a class change.
-use Rattle.std.proofs.Common.{ℕ, ◌≡◌, ◌≢◌, ◌⊎◌, ◌+◌, ◌*◌, ◌/◌, ◌<◌, ◌≤◌, true, false, not, List, [], ◌∷◌, length, get_or, set, get_or-set_same, get_or-set_other, refl, sym, ap, subst, arith, inl, inr, ◌∙◌}
-use Rattle.std.proofs.lemmas.Bool.{cases_eq, cases_lt, cases_Bool}
+use Rattle.std.proofs.Common.{ℕ, ◌≡◌, ◌≢◌, ◌⊎◌, ◌+◌, ◌/◌, ◌<◌, ◌≤◌, true, false, List, [], ◌∷◌, length, set, get_or-set_same, get_or-set_other, sym, ap, subst, arith, inl, inr, ◌∙◌}
+use Rattle.std.proofs.lemmas.Bool.{cases_eq, cases_lt}
 use Rattle.std.proofs.lemmas.List.{length-set}
-use Rattle.std.proofs.lemmas.Grind.{common_steps}
-use Rattle.zone_region.specs.Members.{In, IsDistinct}
+use Rattle.zone_region.specs.Members.{In}
 use Rattle.slab_model.specs.declared.shape.Shape.{Shape}
 use Rattle.slab_model.specs.declared.page.PageState.{PageState}
 use Rattle.slab_model.specs.declared.page.PageState.TheVariants.{Free, First, Later, Class}
-use Rattle.slab_model.specs.Geometry.{IsInLimits, small, kind_of, pages_of, start_of}
-use Rattle.slab_model.specs.Runs.{AreSound, is_covered}
-use Rattle.slab_model.specs.State.{Slab, pages_in, classes_in, page_at, list_of}
+use Rattle.slab_model.specs.Geometry.{IsInLimits, kind_of}
+use Rattle.slab_model.specs.State.{Slab, pages_in, page_at, list_of}
 use Rattle.slab_model.specs.Blocks.{is_full, used_in}
-use Rattle.slab_model.specs.Counting.{is_free}
-use Rattle.slab_model.specs.Soundness.{IsSound, has_room}
-use Rattle.slab_model.proofs.ClassLemmas.{zone}
+use Rattle.slab_model.specs.Soundness.{IsSound}
 use Rattle.slab_model.proofs.StateLemmas.{page_at-in, has_room-is}
-use Rattle.slab_model.proofs.SoundLemmas.{class_page-in}
-use Rattle.slab_pages.specs.Places.{head_word, stat_word, descriptor_word, class_head, page_word, bitmap_words, descriptor, next_at, prev_at, log_ctx_word, data_word}
+use Rattle.slab_pages.specs.Places.{head_word, descriptor_word, class_head, page_word, bitmap_words, descriptor, next_at, prev_at}
 use Rattle.slab_pages.specs.Layout.{LaysRuns, HasUsedRun}
 use Rattle.slab_pages.specs.SlabLayout.{LaysPages, LaysClass, LaysClassPage, LaysSlab, type_of}
 use Rattle.slab_pages.specs.Frames.{SameWords, SameLinks}
 use Rattle.slab_pages.proofs.PlaceLemmas.{descriptor-word}
-use Rattle.slab_pages.proofs.FrameLemmas.{pages-behind, same-descriptor, same-head, same-links, LaysHeader-kept, LaysStat-kept, LaysClass-kept, HasUsedRun-kept, LaysBits-kept, LaysClassPage-kept}
-use Rattle.slab_pool.specs.Steps.{IsOutside, ChangesBits, ChangesLinks}
+use Rattle.slab_pages.proofs.FrameLemmas.{pages-behind, same-descriptor, same-links, LaysHeader-kept, LaysStat-kept, LaysClass-kept, HasUsedRun-kept, LaysBits-kept, LaysClassPage-kept}
+use Rattle.slab_pool.specs.Steps.{ChangesBits, ChangesLinks}
 use Rattle.slab_pool.specs.Links.{Linked}
 use Rattle.slab_pool.proofs.KindLemmas.{numbers}
 

@@ -4,7 +4,7 @@ use Rattle.zone_region.specs.Members.{In, IsDistinct}
 use Rattle.slab_model.specs.declared.shape.Shape.{Shape}
 use Rattle.slab_model.specs.declared.runs.Run.{Run}
 use Rattle.slab_model.specs.declared.page.PageState.TheVariants.{Class}
-use Rattle.slab_model.specs.Geometry.{IsInLimits, Kind, small, exact, big, kind_of, pages_of, first_index, blocks_in_page, usable_blocks}
+use Rattle.slab_model.specs.Geometry.{IsInLimits, small, kind_of, pages_of, first_index, blocks_in_page, usable_blocks}
 use Rattle.slab_model.specs.Numbers.{is_member, without}
 use Rattle.slab_model.specs.Runs.{is_covered}
 use Rattle.slab_model.specs.State.{Slab, page_at, stat_of}

@@ -1,4 +1,4 @@
-use Rattle.std.proofs.Common.{[], ◌<◌, sym, ap, subst, ◌∙◌, arith}
+use Rattle.std.proofs.Common.{[], ap, subst, ◌∙◌, arith}
 use Rattle.slab_model.specs.declared.shape.Shape.{Shape}
 use Rattle.slab_pages.specs.Places.{bitmap_words}
 use Rattle.slab_pool.specs.Bits.{IsBitsWord, HasBits}

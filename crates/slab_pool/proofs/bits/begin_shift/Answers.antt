@@ -1,4 +1,4 @@
-use Rattle.std.proofs.Common.{sym, ap, ◌∙◌, arith}
+use Rattle.std.proofs.Common.{sym, ap, ◌∙◌}
 use Rattle.slab_pages.specs.Places.{Image, slab_at}
 use Rattle.slab_pages.proofs.WriteLemmas.{get-read}
 use Rattle.slab_pool.proofs.ListLemmas.{taken-room}

@@ -1,8 +1,6 @@
-use Rattle.std.proofs.Common.{◌/◌, sym, subst, ◌∙◌, arith}
-use Rattle.slab_model.specs.Geometry.{blocks_in_page}
-use Rattle.slab_pages.specs.Places.{bitmap_words}
+use Rattle.std.proofs.Common.{arith}
 use Rattle.slab_pool.proofs.KindLemmas.{numbers}
-use Rattle.slab_pool.proofs.BitSteps.{all-more, all-found, all-none}
+use Rattle.slab_pool.proofs.BitSteps.{all-more, all-found}
 use Rattle.slab_pool.proofs.bits.first_unused.Goals as goal
 
 pub overflow_mul-j : goal.overflow_mul-j

@@ -1,4 +1,4 @@
-use Rattle.std.proofs.Common.{◌<◌, List, [], ◌∙◌, ℕ, sym, ap, subst, refl, arith}
+use Rattle.std.proofs.Common.{◌<◌, [], subst, refl, arith}
 use Rattle.slab_model.specs.declared.shape.Shape.{Shape}
 use Rattle.slab_model.specs.Geometry.{kind_of}
 use Rattle.slab_pool.specs.Bits.{IsBitsWord, bits_limit}

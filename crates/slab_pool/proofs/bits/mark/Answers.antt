@@ -1,5 +1,5 @@
-use Rattle.std.proofs.Common.{refl, arith}
-use Rattle.slab_pool.proofs.BitSteps.{word-in, mark-fits, marked}
+use Rattle.std.proofs.Common.{refl}
+use Rattle.slab_pool.proofs.BitSteps.{mark-fits, marked}
 use Rattle.slab_pool.proofs.bits.mark.Goals as goal
 
 pub set_bits-requires-clause-small : goal.set_bits-requires-clause-small

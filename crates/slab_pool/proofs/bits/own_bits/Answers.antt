@@ -1,6 +1,4 @@
 use Rattle.slab_pool.proofs.BitSteps.{own-first, own-later}
-use Rattle.slab_pool.proofs.KindLemmas.{numbers}
-use Rattle.std.proofs.Common.{arith}
 use Rattle.slab_pool.proofs.bits.own_bits.Goals as goal
 
 pub overflow_shl-result : goal.overflow_shl-result

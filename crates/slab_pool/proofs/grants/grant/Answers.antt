@@ -1,4 +1,4 @@
-use Rattle.std.proofs.Common.{sym, ap, subst, ◌∙◌, Option, ℕ, arith}
+use Rattle.std.proofs.Common.{sym, ap, subst, ◌∙◌, Option, ℕ}
 use Rattle.slab_model.specs.declared.shape.Shape.{Shape}
 use Rattle.slab_model.specs.Geometry.{pages_for, class_of}
 use Rattle.slab_model.specs.State.{Slab}

@@ -1,8 +1,6 @@
 use Rattle.slab_model.specs.Grant.{grant_run}
 use Rattle.std.proofs.Common.{Some}
 use Rattle.slab_pool.proofs.RunLemmas.{pool-runs}
-use Rattle.slab_pool.proofs.ListLemmas.{taken-later}
-use Rattle.slab_pool.proofs.ClassGrants.{pool-has_runs}
 use Rattle.slab_pool.proofs.NewPage.{TakesPage, in-mid, new-granted, new-kept, failed-pool, failed-kept}
 use Rattle.slab_pool.proofs.grants.grant_in_new_page.Goals as goal
 use Rattle.slab_pool.proofs.grants.grant_in_new_page.Goals.{After-grant_in_taken_page}

@@ -1,13 +1,10 @@
-use Rattle.std.proofs.Common.{ℕ, ◌≡◌, ◌≤◌, ◌<◌, ◌∷◌, List, ap, subst, sym, ◌∙◌, arith}
+use Rattle.std.proofs.Common.{◌≤◌, ◌<◌, ap, subst, sym, ◌∙◌, arith}
 use Rattle.slab_model.specs.declared.shape.Shape.{Shape}
-use Rattle.slab_model.specs.Geometry.{first_index, blocks_in_page, block_offset}
-use Rattle.slab_model.specs.State.{Slab, list_of, stat_of}
+use Rattle.slab_model.specs.Geometry.{first_index, blocks_in_page}
+use Rattle.slab_model.specs.State.{list_of, stat_of}
 use Rattle.slab_model.proofs.ClassLemmas.{first_below}
-use Rattle.slab_pool.specs.Pool.{LaysPool}
-use Rattle.slab_pool.specs.Bits.{HasBits}
-use Rattle.slab_pool.specs.Steps.{IsFirstUnused}
 use Rattle.slab_pool.proofs.ListLemmas.{taken-later}
-use Rattle.slab_pool.proofs.ClassGrants.{FirstPage, first-page, found-index, PageSteps, left-bits, marked-stat, granted-page, kept-page, pool-stat}
+use Rattle.slab_pool.proofs.ClassGrants.{first-page, found-index, left-bits, marked-stat, granted-page, kept-page, pool-stat}
 use Rattle.slab_pool.proofs.grants.grant_in_page.Goals as goal
 
 pub first_unused-index-requires-clause-taken : goal.first_unused-index-requires-clause-taken

@@ -1,6 +1,5 @@
-use Rattle.std.proofs.Common.{ℕ, ◌≡◌, ◌≤◌, ◌<◌, [], ◌∷◌, List, ap, subst, sym, ◌∙◌, arith}
+use Rattle.std.proofs.Common.{ℕ, [], ◌∷◌, ap, subst, sym, ◌∙◌, arith}
 use Rattle.slab_model.specs.declared.shape.Shape.{Shape}
-use Rattle.slab_model.specs.declared.stat.Stat.{Stat}
 use Rattle.slab_model.specs.Geometry.{first_index, blocks_in_page, usable_blocks, block_offset}
 use Rattle.slab_model.specs.State.{stat_of}
 use Rattle.slab_model.specs.Counting.{count_grant}

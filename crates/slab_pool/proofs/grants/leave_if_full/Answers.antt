@@ -1,8 +1,7 @@
-use Rattle.std.proofs.Common.{◌≡◌, ap, ◌∙◌, arith}
+use Rattle.std.proofs.Common.{ap, ◌∙◌, arith}
 use Rattle.slab_model.specs.declared.shape.Shape.{Shape}
 use Rattle.slab_model.specs.Geometry.{blocks_in_page}
 use Rattle.slab_model.proofs.ClassLemmas.{cuts}
-use Rattle.slab_pool.specs.Steps.{stays, leaves}
 use Rattle.slab_pool.proofs.ClassGrants.{left-full, left-open}
 use Rattle.slab_pool.proofs.grants.leave_if_full.Goals as goal
 

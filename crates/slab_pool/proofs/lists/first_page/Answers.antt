@@ -1,4 +1,4 @@
-use Rattle.std.proofs.Common.{◌∷◌, List, sym, ap, ◌∙◌}
+use Rattle.std.proofs.Common.{◌∷◌, sym, ap, ◌∙◌}
 use Rattle.slab_pool.proofs.ListLemmas.{head-empty, head-first}
 use Rattle.slab_pool.proofs.lists.first_page.Goals as goal
 

@@ -1,7 +1,6 @@
-use Rattle.std.proofs.Common.{ℕ, ◌≡◌, ◌*◌, ◌<◌, ap, sym, ◌∙◌, refl, arith, inl, inr}
+use Rattle.std.proofs.Common.{ℕ, ◌≡◌, ◌*◌, ap, sym, ◌∙◌, refl, arith, inl, inr}
 use Rattle.slab_model.specs.declared.shape.Shape.{Shape}
-use Rattle.slab_model.specs.Geometry.{start_of, pages_of, page_size}
-use Rattle.slab_model.specs.State.{page_at}
+use Rattle.slab_model.specs.Geometry.{start_of, pages_of}
 use Rattle.slab_model.specs.Blocks.{page_number, place_in_page}
 use Rattle.slab_model.proofs.ClassLemmas.{zone}
 use Rattle.slab_pool.specs.Refusals.{refusal_in_class, refusal_in_page}

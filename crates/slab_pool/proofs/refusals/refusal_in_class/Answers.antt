@@ -1,4 +1,4 @@
-use Rattle.std.proofs.Common.{ap, sym, ◌∙◌, arith}
+use Rattle.std.proofs.Common.{ap, ◌∙◌}
 use Rattle.slab_model.specs.declared.shape.Shape.{Shape}
 use Rattle.slab_model.specs.Geometry.{first_index}
 use Rattle.slab_pool.proofs.RefusalLemmas.{place-index, class-uneven, class-own, class-unused, class-live}

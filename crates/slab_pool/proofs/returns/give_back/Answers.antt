@@ -1,8 +1,6 @@
-use Rattle.std.proofs.Common.{ℕ, ◌≡◌, ◌/◌, ◌<◌, List, ap, subst, sym, ◌∙◌, arith}
-use Rattle.slab_model.specs.declared.page.PageState.TheVariants.{Class}
-use Rattle.slab_model.specs.Numbers.{without}
-use Rattle.slab_model.specs.State.{Slab, page_at, pages_in}
-use Rattle.slab_model.specs.Return.{give_back, give_in_page, give_pages}
+use Rattle.std.proofs.Common.{ℕ, ◌≡◌, ◌/◌, ap, subst, sym, ◌∙◌, arith}
+use Rattle.slab_model.specs.State.{Slab, page_at}
+use Rattle.slab_model.specs.Return.{give_pages}
 use Rattle.slab_pool.specs.Pool.{LaysPool}
 use Rattle.slab_pool.proofs.ReturnLemmas.{live-place, live-any, class-block, other-block}
 use Rattle.slab_pool.proofs.returns.give_back.Goals as goal

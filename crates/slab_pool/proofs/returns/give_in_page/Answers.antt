@@ -1,5 +1,5 @@
-use Rattle.std.proofs.Common.{ℕ, ◌/◌, ◌≡◌, List, [], ◌∷◌, ap, subst, sym, ◌∙◌, arith}
-use Rattle.slab_model.specs.State.{Slab, stat_of}
+use Rattle.std.proofs.Common.{ℕ, ◌/◌, List, ap, subst, sym, arith}
+use Rattle.slab_model.specs.State.{stat_of}
 use Rattle.slab_model.specs.Numbers.{without}
 use Rattle.slab_model.specs.Return.{give_in_page}
 use Rattle.slab_pool.specs.Pool.{LaysPool}
@@ -7,7 +7,7 @@ use Rattle.slab_model.specs.declared.shape.Shape.{Shape}
 use Rattle.slab_pool.specs.Bits.{HasBits}
 use Rattle.slab_pool.proofs.ListLemmas.{taken-room, taken-later, taken-runs}
 use Rattle.slab_pool.proofs.ClassGrants.{class-taken, pool-bits}
-use Rattle.slab_pool.proofs.ClassReturns.{back-index, now-bits, not-true, was-full, was-open, clears, cleared-known, cleared-taken, cleared-stat, counted-back, left-some}
+use Rattle.slab_pool.proofs.ClassReturns.{back-index, now-bits, not-true, was-full, was-open, clears, cleared-stat, counted-back, left-some}
 use Rattle.slab_pool.proofs.returns.give_in_page.Goals as goal
 
 pub offset_of-requires : goal.offset_of-requires

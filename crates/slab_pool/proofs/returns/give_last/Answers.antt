@@ -2,7 +2,6 @@ use Rattle.std.proofs.Common.{sym, ap, ◌∙◌, arith}
 use Rattle.slab_model.specs.declared.shape.Shape.{Shape}
 use Rattle.slab_model.specs.Geometry.{usable_blocks}
 use Rattle.slab_model.specs.State.{list_of, stat_of}
-use Rattle.slab_pool.proofs.RunLemmas.{pool-runs}
 use Rattle.slab_pool.proofs.ListLemmas.{taken-later}
 use Rattle.slab_pool.proofs.ClassReturns.{cleared-known, cleared-taken, cleared-list, cleared-stat, last-in, last-may_put, last-stat, last-back, put-runs}
 use Rattle.slab_pool.proofs.returns.give_last.Goals as goal

@@ -1,4 +1,4 @@
-use Rattle.std.proofs.Common.{◌≡◌, subst, sym}
+use Rattle.std.proofs.Common.{◌≡◌, subst}
 use Rattle.slab_model.specs.State.{Slab, stat_of}
 use Rattle.slab_pages.specs.Places.{Image}
 use Rattle.slab_pool.specs.Pool.{LaysPool}
