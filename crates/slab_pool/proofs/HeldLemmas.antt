@@ -1,5 +1,5 @@
 -- For callers: live blocks of a pool are what a structure can hold.
-use Rattle.std.proofs.Common.{ℕ, ◌+◌, ◌*◌, ◌<◌, ◌≤◌, List, length, inl, inr, arith}
+use Rattle.std.proofs.Common.{ℕ, ◌<◌, List, length, inl, inr, arith}
 use Rattle.zone_region.specs.Members.{In, IsDistinct}
 use Rattle.zone_region.specs.Holding.{HoldsBlocks}
 use Rattle.slab_model.specs.State.{Slab}
