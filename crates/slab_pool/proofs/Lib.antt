@@ -18,3 +18,4 @@ pub mod BehindLemmas
 pub mod NewPage
 pub mod ClassReturns
 pub mod RefusalLemmas
+pub mod HeldLemmas

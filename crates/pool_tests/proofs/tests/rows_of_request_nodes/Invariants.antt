@@ -1,0 +1,4 @@
+use Rattle.pool_tests.proofs.tests.rows_of_request_nodes.Given as goal
+
+abbrev pub ghosts-thousand : goal.ghosts-thousand
+ghosts-thousand g a = record { name = a.blank.name; parts = a.blank.parts }
