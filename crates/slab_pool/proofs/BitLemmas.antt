@@ -36,7 +36,7 @@ as_member first index used h = elim h [ inl own ↦ inl own | inr there ↦ inr 
 
 -- ---- from the layout to a word
 
-small_word : (words : List ℕ) (shape : Shape) (page class j : ℕ) (used : List ℕ) → class < 3 → LaysSmallBits words shape page class used → j < bitmap_words shape class → IsBitsWord shape class j used (get_or words (page_word shape page + j) 0)
+pub small_word : (words : List ℕ) (shape : Shape) (page class j : ℕ) (used : List ℕ) → class < 3 → LaysSmallBits words shape page class used → j < bitmap_words shape class → IsBitsWord shape class j used (get_or words (page_word shape page + j) 0)
 small_word words shape page class j used low laid below = record {
   set = λ k in_word one. as_member _ _ _ ((laid.bits (64 * j + k) (fits k in_word)).0 ((bit_set _ _).1 (at k in_word one)));
   own = λ k in_word first. back k in_word ((bit_set _ _).0 ((laid.bits (64 * j + k) (fits k in_word)).1 (inl first)));

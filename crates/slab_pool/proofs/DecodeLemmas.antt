@@ -50,7 +50,7 @@ typed-some exact = omega arith
 typed-some big = omega arith
 
 -- a page in a class's list
-listed_type : (words : List ℕ) (shape : Shape) (class o page : ℕ) (pages : List ℕ) → o % 8 ≡ 0 → LaysPages words shape class o pages → In page pages → page_type words page ≡ type_of (kind_of shape class)
+pub listed_type : (words : List ℕ) (shape : Shape) (class o page : ℕ) (pages : List ℕ) → o % 8 ≡ 0 → LaysPages words shape class o pages → In page pages → page_type words page ≡ type_of (kind_of shape class)
 listed_type words shape class o page [] e h m = absurd m
 listed_type words shape class o page (q ∷ qs) e h m = elim m [
   | inl same ↦ ap (λ n. n % 4) (ap (λ n. prev_at words (descriptor n)) same ∙ h.1) ∙ typed (kind_of shape class) o e

@@ -3,8 +3,8 @@ use Rattle.std.proofs.Common.{ℕ, ◌≡◌, ◌*◌, ◌^◌, ◌<◌, ◌≤�
 use Rattle.slab_model.specs.declared.shape.Shape.{Shape}
 use Rattle.slab_model.specs.Geometry.{class_of, class_size, pages_for, page_size, greatest_zone}
 use Rattle.slab_model.specs.Runs.{first_fit}
-use Rattle.slab_model.specs.State.{Slab}
-use Rattle.slab_model.specs.Grant.{grant, grant_as, grant_run, block_bytes, block_bytes_as}
+use Rattle.slab_model.specs.State.{Slab, list_of}
+use Rattle.slab_model.specs.Grant.{grant, grant_as, grant_from_list, grant_run, block_bytes, block_bytes_as}
 use Rattle.slab_model.proofs.ClassLemmas.{cuts, class_known, pages_some}
 use Rattle.slab_pages.specs.Places.{Image}
 use Rattle.slab_pool.specs.Pool.{LaysPool}
@@ -50,3 +50,8 @@ block_bytes-some slab size some = go (class_of slab.shape size) refl where
   go : (class : Option ℕ) → class_of slab.shape size ≡ class → 0 < block_bytes_as slab size class
   go None is = omega (arith, pages_some slab.shape size some)
   go (Some class) is = (cuts slab.shape class (class_known slab.shape size class is)).some
+
+-- a request that a class serves is one of the class
+pub grant-class : (image : Image) (slab : Slab) (size class : ℕ) (shape : Shape) → LaysPool image slab → Some class ≡ class_of shape size → shape ≡ image.shape → grant slab size ≡ grant_from_list slab class (list_of slab class)
+unfolding grant
+grant-class image slab size class shape p some is = ap (grant_as slab size) (sym (some ∙ ap (λ (s : Shape). class_of s size) (is ∙ sym p.shape_is)))

@@ -3,8 +3,9 @@ use Rattle.std.proofs.Common.{ℕ, ◌≡◌, ◌+◌, ◌*◌, ◌<◌, ◌≤�
 use Rattle.std.proofs.lemmas.Bool.{agree_below_at}
 use Rattle.std.proofs.lemmas.Grind.{common_steps}
 use Rattle.slab_model.specs.declared.shape.Shape.{Shape}
-use Rattle.slab_model.specs.Geometry.{small, exact, big, kind_of, class_size, blocks_in_page, first_index, usable_blocks}
+use Rattle.slab_model.specs.Geometry.{Kind, small, exact, big, kind_of, class_size, blocks_in_page, first_index, usable_blocks}
 use Rattle.slab_pages.specs.Places.{bitmap_words}
+use Rattle.slab_pages.specs.SlabLayout.{type_of}
 
 many_blocks : (shape : Shape) (class : ℕ) → class < 9 → ltb 64 (blocks_in_page shape class) ≡ ltb class 3
 unfolding blocks_in_page class_size
@@ -65,3 +66,9 @@ big_test shape class = ltb class 3 || (eqb (bitmap_words shape class) 1 && (eqb 
 pub one_word : (shape : Shape) (class : ℕ) → 3 ≤ class → class < 9 → (bitmap_words shape class ≡ 1) × (first_index shape class ≡ 0) × (blocks_in_page shape class ≤ 64) × (3 < class → blocks_in_page shape class ≤ 32)
 unfolding big_test blocks_in_page class_size first_index
 one_word shape class high known = let test = agree_below_at (big_test shape) (λ _. true) 9 class refl known in (grind (arith, common_steps, test), grind (arith, common_steps, test), grind (arith, common_steps, test), grind (arith, common_steps, test))
+
+-- the types of the kinds are the low two bits
+pub types-few : (k : Kind) → type_of k < 4
+types-few small = omega arith
+types-few exact = omega arith
+types-few big = omega arith

@@ -9,3 +9,12 @@ pub mod RunLemmas
 pub mod PoolLemmas
 pub mod GrantLemmas
 pub mod ReturnLemmas
+pub mod StepLemmas
+pub mod ListLemmas
+pub mod BitSteps
+pub mod BlockPlaces
+pub mod ClassGrants
+pub mod BehindLemmas
+pub mod NewPage
+pub mod ClassReturns
+pub mod RefusalLemmas

@@ -109,7 +109,7 @@ pub record TakesOut (class type : ℕ) (old new : List ℕ) (page : ℕ) : Type 
 abbrev pub Outside : ℕ → List ℕ → Type 0
 Outside o pages = (q : ℕ) → In q pages → descriptor q ≢ o
 
-taken_out : (class type : ℕ) (old new : List ℕ) (page o : ℕ) (xs ys : List ℕ) → class < 9 → TakesOut class type old new page → IsNode class o → Outside o (xs ++ page ∷ ys) → IsDistinct (xs ++ page ∷ ys) → Linked old (class_head class) type o (xs ++ page ∷ ys) → Linked new (class_head class) type o (xs ++ ys)
+pub taken_out : (class type : ℕ) (old new : List ℕ) (page o : ℕ) (xs ys : List ℕ) → class < 9 → TakesOut class type old new page → IsNode class o → Outside o (xs ++ page ∷ ys) → IsDistinct (xs ++ page ∷ ys) → Linked old (class_head class) type o (xs ++ page ∷ ys) → Linked new (class_head class) type o (xs ++ ys)
 taken_out class type old new page o [] [] known t node out once l = t.next o l.1 ∙ l.2
 taken_out class type old new page o [] (y ∷ ys) known t node out once l =
     let after : next_at old (descriptor page) ≡ descriptor y = l.2.0 in

@@ -1,20 +1,26 @@
 ghost use Rattle.std.specs.Prelude.{◌≡◌, ℕ, ◌+◌, ◌/◌, ◌<◌, ◌≤◌, ◌↔◌, [], length, replicate, slice_index, slice_set, IfOk, IfSome, IsOk, MatchOption, MatchResult, OnErr, OnOk, Some, None};
 ghost use Rattle.zone_region.specs.Words.{SetsWord, word_at};
-ghost use Rattle.slab_model.specs.Geometry.{greatest_zone, class_of, pages_of};
+ghost use Rattle.slab_model.specs.Geometry.{greatest_zone, class_count, pages_of};
 ghost use Rattle.slab_model.specs.State.{Slab, fresh_slab, stat_of};
 ghost use Rattle.slab_model.specs.Counting.{free_pages as free_pages_of};
 ghost use Rattle.slab_model.specs.Grant.{grant as granted, block_bytes};
 ghost use Rattle.slab_model.specs.Return.{give_back as given_back};
+ghost use Rattle.slab_model.specs.Blocks.{IsLive};
 ghost use Rattle.slab_model.specs.Inside.{offset_of};
 ghost use Rattle.slab_pages.specs.Shapes.{shape_in};
 ghost use Rattle.slab_pages.specs.Places.{log_ctx_word, data_word};
 ghost use Rattle.slab_pages.specs.SlabLayout.{IsOpened};
 ghost use Rattle.slab_pool.specs.Pool.{LaysPool};
+ghost use Rattle.slab_pool.specs.Refusals.{fault_in, refusal as refusal_of};
 ghost use Rattle.slab_pool.specs.Live.{block_words, rest_of, KeepsPages, KeepsPagesBut, GrantsWords, ReturnsWords, SameBlockWords};
 
 use crate::clear::clear_block;
+use crate::fault::FreeFault;
 use crate::grants::grant;
+use crate::refusals::refusal;
 use crate::returns::give_back;
+use crate::stats::stat;
+use slab_model::Stat;
 use slab_pages::{DATA_WORD, Geometry, LOG_CTX_WORD, Pages};
 use std::alloc::Global;
 use std::marker::Model;
@@ -81,6 +87,14 @@ impl Pool {
         self.pages.word_count()
     }
 
+    /// The statistics of a class, which is below 9 (`ngx_slab_stat_t`).
+    pub fn stats(&self, class: u32) -> Stat
+        requires { class < class_count self.now.shape }
+        ensures { (slab : Slab) → LaysPool self.now slab → result ≡ stat_of slab class }
+    {
+        stat(&self.pages, class)
+    }
+
     /// Word `w` of the zone, of a block or not.
     pub fn raw(&self, w: u64) -> u64
         requires { w < length self.now.words }
@@ -89,14 +103,12 @@ impl Pool {
         self.pages.word(w)
     }
 
-    /// Grants a block of at least `size` bytes, 1 to 67,108,864, for `ngx_slab_alloc`: from the first free run that has
-    /// as many whole pages. None exactly where the slab has no block for it, and then no block changes.
-    ///
-    /// So far it serves sizes above 2,048 alone.
+    /// Grants a block of at least `size` bytes, 1 to 67,108,864 (`ngx_slab_alloc`). Up to 2,048 bytes it is the lowest free
+    /// block in the first page of the size's class that has one, or the first block of a free page. More are whole pages,
+    /// from the first free run that has as many. None exactly where the slab has no block for it, and then no block changes.
     pub fn alloc(&mut self, size: u64) -> Option<Block>
         requires some { 0 < size }
         requires small { size ≤ greatest_zone }
-        requires whole { class_of self.old.shape size ≡ None }
         ensures block { (slab : Slab) → LaysPool self.old slab → offset_of result ≡ (granted slab size).0 }
         ensures laid { (slab : Slab) → LaysPool self.old slab → LaysPool self.new (granted slab size).1 }
         ensures words { (slab : Slab) → LaysPool self.old slab →
@@ -112,7 +124,6 @@ impl Pool {
     pub fn calloc(&mut self, size: u64) -> Option<Block>
         requires some { 0 < size }
         requires small { size ≤ greatest_zone }
-        requires whole { class_of self.old.shape size ≡ None }
         ensures block { (slab : Slab) → LaysPool self.old slab → offset_of result ≡ (granted slab size).0 }
         ensures laid { (slab : Slab) → LaysPool self.old slab → LaysPool self.new (granted slab size).1 }
         ensures words { (slab : Slab) → LaysPool self.old slab →
@@ -135,16 +146,47 @@ impl Pool {
         }
     }
 
-    /// Gives a live block back (`ngx_slab_free`).
-    ///
-    /// So far it takes blocks of whole pages alone.
+    /// Gives a live block back (`ngx_slab_free`). A page that was full comes to the head of its class's list, and a page
+    /// without a live block to the free runs.
     pub fn free(&mut self, b: Block)
-        requires { 512 ≤ length (block_words self.old b.at) }
+        requires { 0 < length (block_words self.old b.at) }
         ensures laid { (slab : Slab) → LaysPool self.old slab → LaysPool self.new (given_back slab b.at) }
         ensures words { ReturnsWords (block_words self.old) (block_words self.new) b.at }
         ensures kept { KeepsPages self.old self.new }
     {
         give_back(&mut self.pages, b.at);
+    }
+
+    /// Gives back the live block that begins at this byte offset, and refuses an offset where none begins. The refusals
+    /// are tried in this order, and after one the pool is as before:
+    ///
+    /// - `Outside`: the offset is before the first page or behind the last one.
+    /// - `WrongChunk`, in a page of a class: no block of its size begins there, or it is one of those that hold the
+    ///   page's own bits.
+    /// - `AlreadyFree`, in a page of a class: that block isn't used.
+    /// - `WrongChunk`, in another page: the page doesn't begin there.
+    /// - `PageAlreadyFree`, in another page: the page is free.
+    /// - `WrongPage`, in another page: the page is a later page of a used run.
+    ///
+    /// They are those of `ngx_slab_free_locked`: outside of pool, wrong chunk, chunk is already free, page is already
+    /// free and pointer to wrong page.
+    pub fn try_free(&mut self, offset: u64) -> Result<(), FreeFault>
+        ensures refused { (slab : Slab) → LaysPool self.old slab → fault_in result ≡ refusal_of slab offset }
+        ensures live { (slab : Slab) → LaysPool self.old slab → IsOk result ↔ IsLive slab offset }
+        ensures laid { (slab : Slab) → LaysPool self.old slab → OnOk result (LaysPool self.new (given_back slab offset)) }
+        ensures words { MatchResult result
+            (λ _. ReturnsWords (block_words self.old) (block_words self.new) offset)
+            (λ _. SameBlockWords (block_words self.old) (block_words self.new)) }
+        ensures kept { KeepsPages self.old self.new }
+        ensures unchanged { OnErr result (self.new ≡ self.old) }
+    {
+        match refusal(&self.pages, offset) {
+            Some(fault) => Err(fault),
+            None => {
+                give_back(&mut self.pages, offset);
+                Ok(())
+            }
+        }
     }
 
     /// Names the context and the name block of the zone in the header's words `data` and `log_ctx`, and changes no

@@ -1,0 +1,14 @@
+/// Why no live block begins at an offset.
+#[derive(Clone, Copy, Debug, PartialEq, Eq)]
+pub enum FreeFault {
+    /// The offset is in none of the zone's pages.
+    Outside,
+    /// No block begins there: the offset is within a block or a page, or that of a block that holds its page's bits.
+    WrongChunk,
+    /// The block of that offset isn't used.
+    AlreadyFree,
+    /// The page of that offset is free.
+    PageAlreadyFree,
+    /// The page of that offset is a later page of a used run.
+    WrongPage,
+}
