@@ -1,5 +1,5 @@
 -- What the calls of a pool leave of its blocks.
-use Rattle.std.proofs.Common.{ℕ, ◌≡◌, ◌≢◌, ◌⊎◌, ◌+◌, ◌-◌, ◌*◌, ◌/◌, ◌^◌, ◌<◌, ◌≤◌, Bool, true, false, ◌||◌, ltb, List, [], length, get_or, set, replicate, Option, Some, None, MatchOption, sym, ap, subst, ◌∙◌, refl, arith, inl, inr, get_or-set_same, get_or-set_other}
+use Rattle.std.proofs.Common.{ℕ, ◌≡◌, ◌≢◌, ◌⊎◌, ◌+◌, ◌-◌, ◌*◌, ◌/◌, ◌^◌, ◌<◌, ◌≤◌, Bool, true, false, ◌||◌, ltb, List, [], length, get_or, set, replicate, Option, Some, None, MatchOption, sym, ap, subst, ◌∙◌, refl, arith, inl, inr, get_or-set_same, get_or-set_other, IfSome}
 use Rattle.std.proofs.lemmas.List.{length-set, same_lists, get_or_default, length-replicate, get_or-replicate}
 use Rattle.std.proofs.lemmas.Bool.{cases_eq, cases_lt}
 use Rattle.std.proofs.lemmas.Grind.{common_steps}
@@ -52,6 +52,13 @@ refused-words old new slab size p q none kept at = kept-block old new slab (gran
 pub alloc-words : (old new : Image) (slab : Slab) (size : ℕ) (result : Option Block) → LaysPool old slab → 0 < size → LaysPool new (grant slab size).1 → offset_of result ≡ (grant slab size).0 → KeepsPages old new → MatchOption result (SameBlockWords (block_words old) (block_words new)) (λ b. GrantsWords (block_words old) (block_words new) b.at (block_bytes slab size / 8))
 alloc-words old new slab size None p some q is kept = refused-words old new slab size p q (sym is) kept
 alloc-words old new slab size (Some b) p some q is kept = granted-words old new slab size b.at p some q (sym is) kept
+
+pub granted-room : (old new : Image) (slab : Slab) (size : ℕ) (result : Option Block) → LaysPool old slab → 0 < size → LaysPool new (grant slab size).1 → offset_of result ≡ (grant slab size).0 → IfSome result (λ b. size ≤ 8 * length (block_words new b.at))
+granted-room old new slab size None p some q is = cc
+granted-room old new slab size (Some b) p some q is =
+    let g = grant-grants slab size b.at p.sound some (sym is) in
+    let live : IsLive (grant slab size).1 b.at = omega (arith, g.0.bytes, g.1, some) in
+    omega (arith, (block_room new (grant slab size).1 b.at q live).long, length-block new (grant slab size).1 b.at q, g.0.bytes, g.1)
 
 -- ---- a return
 

@@ -1,4 +1,4 @@
-ghost use Rattle.std.specs.Prelude.{◌≡◌, ℕ, ◌+◌, ◌/◌, ◌<◌, ◌≤◌, ◌↔◌, [], length, replicate, slice_index, slice_set, IfOk, IfSome, IsOk, MatchOption, MatchResult, OnErr, OnOk, Some, None};
+ghost use Rattle.std.specs.Prelude.{◌≡◌, ℕ, ◌+◌, ◌*◌, ◌/◌, ◌<◌, ◌≤◌, ◌↔◌, [], length, replicate, slice_index, slice_set, IfOk, IfSome, IsOk, MatchOption, MatchResult, OnErr, OnOk, Some, None};
 ghost use Rattle.zone_region.specs.Words.{SetsWord, word_at};
 ghost use Rattle.slab_model.specs.Geometry.{greatest_zone, class_count, pages_of};
 ghost use Rattle.slab_model.specs.State.{Slab, fresh_slab, stat_of};
@@ -115,6 +115,8 @@ impl Pool {
             MatchOption result
             (SameBlockWords (block_words self.old) (block_words self.new))
             (λ b. GrantsWords (block_words self.old) (block_words self.new) b.at (block_bytes slab size / 8)) }
+        ensures known { ((slab : Slab) × LaysPool self.old slab) }
+        ensures room { IfSome result (λ b. size ≤ 8 * length (block_words self.new b.at)) }
         ensures kept { KeepsPages self.old self.new }
     {
         grant(&mut self.pages, size)
@@ -130,6 +132,8 @@ impl Pool {
             MatchOption result
             (SameBlockWords (block_words self.old) (block_words self.new))
             (λ b. GrantsWords (block_words self.old) (block_words self.new) b.at (block_bytes slab size / 8)) }
+        ensures known { ((slab : Slab) × LaysPool self.old slab) }
+        ensures room { IfSome result (λ b. size ≤ 8 * length (block_words self.new b.at)) }
         ensures zeros { (slab : Slab) → LaysPool self.old slab →
             IfSome result (λ b. block_words self.new b.at ≡ replicate (block_bytes slab size / 8) 0) }
         ensures kept { (slab : Slab) → LaysPool self.old slab →

@@ -1,10 +1,10 @@
-use Rattle.std.proofs.Common.{◌≡◌, ◌/◌, replicate, sym, subst}
+use Rattle.std.proofs.Common.{◌≡◌, ◌/◌, replicate, sym, subst, Some}
 use Rattle.slab_model.specs.State.{Slab}
 use Rattle.slab_model.specs.Grant.{grant, block_bytes}
 use Rattle.slab_pages.specs.Places.{Image}
 use Rattle.slab_pool.specs.Pool.{LaysPool}
 use Rattle.slab_pool.specs.Live.{block_words, SameBlockWords, GrantsWords, KeepsPagesBut}
-use Rattle.slab_pool.proofs.PoolLemmas.{Callocs, refused-words, granted-bytes, calloc-laid, calloc-words, calloc-zeros, calloc-keeps}
+use Rattle.slab_pool.proofs.PoolLemmas.{Callocs, refused-words, granted-bytes, calloc-laid, calloc-words, calloc-zeros, calloc-keeps, granted-room}
 use Rattle.slab_pool.proofs.pool.Pool.calloc.Goals as goal
 use Rattle.slab_pool.proofs.pool.Pool.calloc.Goals.{After-clear_block}
 
@@ -42,3 +42,17 @@ pub returns-in-Some-clause-kept : goal.returns-in-Some-clause-kept
 returns-in-Some-clause-kept c =
     let P : Image → Type 0 = λ i. (slab : Slab) → LaysPool i slab → KeepsPagesBut i c.clear_block.new.pages c.in-Some.block.at (block_bytes slab c.args.size / 8) in
     subst P c.self.view_is (λ slab p. calloc-keeps _ _ _ _ _ _ (steps c slab p))
+
+known : (a b : Image) → a ≡ b → (slab : Slab) × LaysPool a slab → (slab : Slab) × LaysPool b slab
+known a b e p = subst (λ (i : Image). (slab : Slab) × LaysPool i slab) e p
+
+pub returns-in-None-clause-known : goal.returns-in-None-clause-known
+returns-in-None-clause-known c = known _ _ c.self.view_is c.self.invariant
+
+pub returns-in-Some-clause-known : goal.returns-in-Some-clause-known
+returns-in-Some-clause-known c = known _ _ c.self.view_is c.self.invariant
+
+pub returns-in-Some-clause-room : goal.returns-in-Some-clause-room
+returns-in-Some-clause-room c =
+    let p = c.self.invariant.1 in
+    granted-room _ _ _ c.args.size (Some c.in-Some.block) p c.requires.some (calloc-laid _ _ _ _ _ _ (steps c _ p)) (c.in-Some.ensures.block _ p)
