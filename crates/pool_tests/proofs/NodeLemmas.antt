@@ -16,7 +16,8 @@ use Rattle.slab_model.specs.State.{Slab}
 use Rattle.slab_model.specs.Grant.{block_bytes}
 use Rattle.slab_pages.specs.Places.{Image}
 use Rattle.slab_pool.specs.Pool.{LaysPool}
-use Rattle.slab_pool.specs.Live.{block_words, GrantsWords, ReturnsWords}
+use Rattle.slab_pool.specs.Live.{block_words}
+use Rattle.zone_region.specs.Granting.{GrantsWords, ReturnsWords}
 use Rattle.slab_pool.proofs.HeldLemmas.{holds-blocks}
 use Rattle.offset_tree.specs.declared.tree.Tree.{Tree}
 use Rattle.offset_tree.specs.declared.tree.Form.{Form}

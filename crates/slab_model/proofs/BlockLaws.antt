@@ -15,7 +15,7 @@ use Rattle.slab_model.specs.Blocks.{IsLive, live_bytes, live_in_page, page_numbe
 use Rattle.slab_model.specs.Grant.{use_pages, block_bytes, block_bytes_as, grant, grant_as, grant_run, grant_from_list, grant_in_page, grant_in_new_page}
 use Rattle.slab_model.specs.Return.{give_back, give_in_page, give_pages}
 use Rattle.slab_model.specs.Soundness.{AreUsed, IsSound}
-use Rattle.slab_model.specs.Laws.{AreDisjoint, LiesInPages, Grants, Returns, SameBlocks, FreshLaw, GrantLaw, NewBlockLaw, NoGrantLaw, ReturnLaw, BlocksLaw}
+use Rattle.slab_model.specs.Laws.{HasDisjointBlocks, LiesInPages, Grants, Returns, SameBlocks, FreshLaw, GrantLaw, NewBlockLaw, NoGrantLaw, ReturnLaw, BlocksLaw}
 use Rattle.slab_model.proofs.ClassLemmas.{cuts, zone, class_of-some, pages_for-holds}
 use Rattle.slab_model.proofs.NumberLemmas.{member, is_member-with, is_member-without}
 use Rattle.slab_model.proofs.RunLemmas.{first_fit-in}
@@ -367,7 +367,7 @@ ends_before slab a b s less (over_pages page count is a_is a_bytes) (over_pages 
 
 pub blocks-law : BlocksLaw
 blocks-law slab s = (disjoint, λ at live. lies_in_pages slab at s (lies slab at s live)) where
-  disjoint : AreDisjoint slab
+  disjoint : HasDisjointBlocks slab
   disjoint a b a_live b_live ne = elim (cases_order a b) [
     | inl e ↦ absurd (ne e)
     | inr other ↦ elim other [

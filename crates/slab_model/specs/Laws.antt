@@ -15,8 +15,8 @@ use Rattle.slab_model.specs.Soundness.{IsSound}
 -- ---- the live blocks
 
 -- no two live blocks share a byte
-abbrev pub AreDisjoint : Slab → Type 0
-AreDisjoint slab = (a b : ℕ) → IsLive slab a → IsLive slab b → a ≢ b → (a + live_bytes slab a ≤ b) ⊎ (b + live_bytes slab b ≤ a)
+abbrev pub HasDisjointBlocks : Slab → Type 0
+HasDisjointBlocks slab = (a b : ℕ) → IsLive slab a → IsLive slab b → a ≢ b → (a + live_bytes slab a ≤ b) ⊎ (b + live_bytes slab b ≤ a)
 
 -- a live block lies within the pages, and so within the zone, at a multiple of 8
 pub record LiesInPages (slab : Slab) (at : ℕ) : Type 0 where
@@ -112,7 +112,7 @@ ReturnLaw = (slab : Slab) (at : ℕ) → IsSound slab → IsLive slab at → Ret
 
 -- live blocks share no byte, and lie within the pages
 abbrev pub BlocksLaw : Type 0
-BlocksLaw = (slab : Slab) → IsSound slab → AreDisjoint slab × ((at : ℕ) → IsLive slab at → LiesInPages slab at)
+BlocksLaw = (slab : Slab) → IsSound slab → HasDisjointBlocks slab × ((at : ℕ) → IsLive slab at → LiesInPages slab at)
 
 -- a page gives the lowest unused index, until it is full
 abbrev pub LowestLaw : Type 0

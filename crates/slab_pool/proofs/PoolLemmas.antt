@@ -21,7 +21,8 @@ use Rattle.slab_pages.proofs.SetLemmas.{may_set-past}
 use Rattle.slab_model.specs.declared.runs.Run.{Run}
 use Rattle.slab_pages.proofs.FrameLemmas.{LaysSlab-kept, pages-behind}
 use Rattle.slab_pool.specs.Pool.{LaysPool}
-use Rattle.slab_pool.specs.Live.{block_words, is_bitmap_word, KeepsPages, KeepsPagesBut, ClearsWords, GrantsWords, ReturnsWords, SameBlockWords}
+use Rattle.slab_pool.specs.Live.{block_words, is_bitmap_word, KeepsPages, KeepsPagesBut, ClearsWords}
+use Rattle.zone_region.specs.Granting.{GrantsWords, ReturnsWords, SameBlockWords}
 use Rattle.slab_pool.proofs.BlockWords.{block_word, block_room, kept-block, no-block, length-block, word-block, same-block}
 use Rattle.slab_pool.proofs.RestLemmas.{same-bitmap, rest-set, rest-laid, bitmap-belongs, few_words}
 use Rattle.slab_pool.proofs.RunLemmas.{pool-runs}

@@ -12,7 +12,8 @@ ghost use Rattle.slab_pages.specs.Places.{log_ctx_word, data_word};
 ghost use Rattle.slab_pages.specs.SlabLayout.{IsOpened};
 ghost use Rattle.slab_pool.specs.Pool.{LaysPool};
 ghost use Rattle.slab_pool.specs.Refusals.{fault_in, refusal as refusal_of};
-ghost use Rattle.slab_pool.specs.Live.{block_words, rest_of, KeepsPages, KeepsPagesBut, GrantsWords, ReturnsWords, SameBlockWords};
+ghost use Rattle.slab_pool.specs.Live.{block_words, rest_of, KeepsPages, KeepsPagesBut};
+ghost use Rattle.zone_region.specs.Granting.{GrantsWords, ReturnsWords, SameBlockWords};
 
 use crate::clear::clear_block;
 use crate::fault::FreeFault;

@@ -4,7 +4,8 @@ use Rattle.slab_model.specs.State.{Slab}
 use Rattle.slab_model.specs.Grant.{block_bytes}
 use Rattle.slab_pages.specs.Places.{Image}
 use Rattle.slab_pool.specs.Pool.{LaysPool}
-use Rattle.slab_pool.specs.Live.{block_words, SameBlockWords, GrantsWords}
+use Rattle.slab_pool.specs.Live.{block_words}
+use Rattle.zone_region.specs.Granting.{SameBlockWords, GrantsWords}
 use Rattle.slab_pool.proofs.PoolLemmas.{alloc-words, granted-room}
 use Rattle.slab_pool.proofs.pool.Pool.alloc.Goals as goal
 

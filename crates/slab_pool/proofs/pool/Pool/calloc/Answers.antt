@@ -3,7 +3,8 @@ use Rattle.slab_model.specs.State.{Slab}
 use Rattle.slab_model.specs.Grant.{grant, block_bytes}
 use Rattle.slab_pages.specs.Places.{Image}
 use Rattle.slab_pool.specs.Pool.{LaysPool}
-use Rattle.slab_pool.specs.Live.{block_words, SameBlockWords, GrantsWords, KeepsPagesBut}
+use Rattle.slab_pool.specs.Live.{block_words, KeepsPagesBut}
+use Rattle.zone_region.specs.Granting.{SameBlockWords, GrantsWords}
 use Rattle.slab_pool.proofs.PoolLemmas.{Callocs, refused-words, granted-bytes, calloc-laid, calloc-words, calloc-zeros, calloc-keeps, granted-room}
 use Rattle.slab_pool.proofs.pool.Pool.calloc.Goals as goal
 use Rattle.slab_pool.proofs.pool.Pool.calloc.Goals.{After-clear_block}

@@ -1,6 +1,7 @@
 use Rattle.std.proofs.Common.{◌<◌, length, subst, sym, arith}
 use Rattle.slab_pages.specs.Places.{Image}
-use Rattle.slab_pool.specs.Live.{block_words, ReturnsWords}
+use Rattle.slab_pool.specs.Live.{block_words}
+use Rattle.zone_region.specs.Granting.{ReturnsWords}
 use Rattle.slab_pool.proofs.BlockWords.{length-block}
 use Rattle.slab_pool.proofs.PoolLemmas.{returned-words}
 use Rattle.slab_pool.proofs.pool.Pool.free.Goals as goal

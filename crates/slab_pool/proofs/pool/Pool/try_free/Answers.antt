@@ -3,7 +3,8 @@ use Rattle.slab_model.specs.State.{Slab}
 use Rattle.slab_model.specs.Blocks.{IsLive}
 use Rattle.slab_pages.specs.Places.{Image}
 use Rattle.slab_pool.specs.Pool.{LaysPool}
-use Rattle.slab_pool.specs.Live.{block_words, ReturnsWords}
+use Rattle.slab_pool.specs.Live.{block_words}
+use Rattle.zone_region.specs.Granting.{ReturnsWords}
 use Rattle.slab_pool.specs.declared.fault.FreeFault.{FreeFault}
 use Rattle.slab_pool.proofs.PoolLemmas.{returned-words}
 use Rattle.slab_pool.proofs.RefusalLemmas.{refusal-live}
