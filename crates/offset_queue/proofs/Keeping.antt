@@ -1,11 +1,13 @@
 -- For callers: what a change of other words leaves of a queue, and when a block can be put in.
-use Rattle.std.proofs.Common.{ℕ, ◌≡◌, ◌+◌, ◌≤◌, List, ◌∷◌, length, inl, inr, ap, subst, sym, refl, arith, get_or}
+use Rattle.std.proofs.Common.{ℕ, ◌≡◌, ◌+◌, ◌*◌, ◌^◌, ◌<◌, ◌≤◌, List, ◌∷◌, length, inl, inr, ap, subst, sym, refl, arith, get_or}
 use Rattle.zone_region.specs.Words.{Words, word_at}
 use Rattle.zone_region.specs.Members.{In}
+use Rattle.zone_region.specs.Granting.{GrantsWords, ReturnsWords}
 use Rattle.zone_region.specs.Holding.{HoldsBlocks}
+use Rattle.zone_region.proofs.GrantingLemmas.{granted_same, returned_same}
 use Rattle.zone_region.proofs.HoldingLemmas.{holds_kept}
 use Rattle.offset_queue.specs.declared.queue.Queue.{Queue}
-use Rattle.offset_queue.specs.Queue.{head_joint, IsQueue, CanPush}
+use Rattle.offset_queue.specs.Queue.{head_joint, IsHead, IsQueue, CanPush}
 use Rattle.offset_queue.proofs.Chains.{chain_kept}
 
 -- the lengths of the head's block and of these, and their link words stay
@@ -37,6 +39,24 @@ kept_blocks m n q link xs same = record {
 } where
   same_at_block : (z i : ℕ) → n z ≡ m z → word_at n z i ≡ word_at m z i
   same_at_block z i e = ap (λ ws. get_or ws i 0) e
+
+-- a grant of a block leaves a queue
+pub granted_queue : (m n : Words) (at count : ℕ) (q : Queue) (link : ℕ) (xs : List ℕ) → GrantsWords m n at count → IsQueue m q link xs → IsQueue n q link xs
+granted_queue m n at count q link xs g h =
+    kept_queue m n q link xs (kept_blocks m n q link xs (granted_same m n at count (q.head.at ∷ xs) g h.holds.live)) h
+
+-- and so does the return of a block that isn't the head's or an entry
+pub returned_queue : (m n : Words) (at : ℕ) (q : Queue) (link : ℕ) (xs : List ℕ) → ReturnsWords m n at → (In at (q.head.at ∷ xs) → ⊥) → IsQueue m q link xs → IsQueue n q link xs
+returned_queue m n at q link xs r out h =
+    kept_queue m n q link xs (kept_blocks m n q link xs (returned_same m n at (q.head.at ∷ xs) r out)) h
+
+-- a new block with room for two links, above offset 0 and below 2^63, can hold a head
+pub granted_head : (m n : Words) (q : Queue) (count : ℕ) → GrantsWords m n q.head.at count → q.at + 2 ≤ count → 0 < q.head.at → q.head.at + 8 * count ≤ 2 ^ 63 → IsHead n q
+granted_head m n q count g room above below = record {
+  room = omega (arith, g.long, room);
+  above = above;
+  below = omega (arith, g.long, below);
+}
 
 -- a live block of no queue with room for its links can be put in
 pub can_push : (m : Words) (q : Queue) (link b : ℕ) (xs : List ℕ) → HoldsBlocks m (q.head.at ∷ b ∷ xs) → link + 2 ≤ length (m b) → IsQueue m q link xs → CanPush m q link b xs

@@ -25,8 +25,8 @@ impl Table {
         queue.init(blocks);
     }
 
-    /// The node of this hash and key; none exactly where no node has both. It reads at most
-    /// `(2 * bits(n + 1) + 1) * (5 + len / 8)` words, with `n` nodes and a key of `len` bytes.
+    /// The node of this hash and key; none exactly where no node has both. With `n` nodes and a key of `len` bytes, at
+    /// most `(2 * bits(n + 1) + 1) * (5 + len / 8)` steps are counted, each a word that is read.
     pub fn find<B: Blocks, L: Ledger>(
         &self,
         blocks: &B,
@@ -48,7 +48,7 @@ impl Table {
 
     /// Puts a block in as the node that was used last. Its words hold the key's hash, length and bytes already.
     ///
-    /// It reads at most three times as many words as a search for the key may read, and 24 more.
+    /// The counted steps are at most three times those of a search for the key, and 24 more.
     pub fn add<B: Blocks, L: Ledger>(
         &self,
         blocks: &mut B,

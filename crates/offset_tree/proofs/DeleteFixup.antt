@@ -1,4 +1,4 @@
--- The steps of the repair after a black block was taken out.
+-- The steps of the delete fixup.
 pub mod Lacking
 pub mod RedSibling
 pub mod BlackSibling

@@ -1,4 +1,4 @@
--- The steps of the repair after a block was put in.
+-- The steps of the insert fixup.
 pub mod Rising
 pub mod Conflict
 pub mod Uncle

@@ -247,7 +247,7 @@ gap_of m t b key xs p side c o = record {
   };
 }
 
--- the tree with the red block, before the repair
+-- the tree with the red block, before the insert fixup
 pub rising_of : (m n : Words) (t : Tree) (rank : Rank) (b : ℕ) (xs : List ℕ) (p : ℕ) (side : Side) (o : Opening m t rank xs p side) → IsShape n t.context.at (plug o.path (node true leaf b leaf)) →
     Rising n t.context.at b (o.before ++ b ∷ o.after) (depth_of o.path)
 rising_of m n t rank b xs p side o shape = record {

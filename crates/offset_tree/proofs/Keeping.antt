@@ -1,18 +1,19 @@
 -- For callers: what a change of other words leaves of a tree.
-use Rattle.std.proofs.Common.{ℕ, ◌≡◌, ◌≢◌, ◌⊎◌, ◌+◌, ◌*◌, ◌/◌, ◌%◌, ◌^◌, ◌≤◌, zero, suc, Bool, false, List, ◌∷◌, length, sym, ap, subst, ◌∙◌, refl, arith, inl, inr}
+use Rattle.std.proofs.Common.{ℕ, ◌≡◌, ◌≢◌, ◌⊎◌, ◌+◌, ◌*◌, ◌/◌, ◌%◌, ◌^◌, ◌<◌, ◌≤◌, zero, suc, Bool, false, List, ◌∷◌, length, sym, ap, subst, ◌∙◌, refl, arith, inl, inr}
 use Rattle.std.proofs.lemmas.Bool.{cases_eq}
 use Rattle.zone_region.specs.Words.{Words, word_at}
 use Rattle.offset_tree.specs.declared.tree.Tree.{Tree}
 use Rattle.offset_tree.specs.declared.tree.Form.{Form}
 use Rattle.zone_region.specs.Members.{In}
 use Rattle.offset_tree.specs.Keys.{Rank, byte_of, bytes_of, key_len, key_of, rank_of, HoldsKey}
-use Rattle.offset_tree.specs.Layout.{LaysPart, empty, red, black, IsTree, CanInsert}
+use Rattle.offset_tree.specs.Layout.{LaysPart, empty, red, black, IsContext, IsTree, CanInsert}
+use Rattle.zone_region.specs.Granting.{GrantsWords, ReturnsWords}
 use Rattle.zone_region.specs.Holding.{HoldsBlocks}
+use Rattle.zone_region.proofs.GrantingLemmas.{granted_same, returned_same}
 use Rattle.zone_region.proofs.HoldingLemmas.{holds_kept}
 use Rattle.zone_region.proofs.MembersLemmas.{In-append_left, In-append_right, In-middle}
 use Rattle.offset_tree.proofs.LiesLemmas.{same_word}
 use Rattle.offset_tree.proofs.InsertLemmas.{ordered_same}
-use Rattle.offset_tree.proofs.Drawing.{tree_of}
 
 -- the links and the colour of a block stay
 pub record KeepsNode (m n : Words) (z : ℕ) : Type 0 where
@@ -69,29 +70,6 @@ kept_tree m n t xs k h =
       };
     }
 
-pub kept_fewer : (m n : Words) (t : Tree) (xs ys : List ℕ) → ((z : ℕ) → In z ys → In z xs) → KeepsTree m n t xs → KeepsTree m n t ys
-kept_fewer m n t xs ys into k = record {
-  lengths = λ z i. k.lengths z (elim i [ inl e ↦ inl e | inr j ↦ inr (into z j) ]);
-  root = k.root;
-  nodes = λ z i. k.nodes z (into z i);
-  keys = λ z i. k.keys z (into z i);
-}
-
--- a block that can be put in can still be put in
-pub kept_can_insert : (m n : Words) (t : Tree) (b : ℕ) (key xs : List ℕ) → KeepsTree m n t (b ∷ xs) → CanInsert m t b key xs → CanInsert n t b key xs
-kept_can_insert m n t b key xs k c =
-    let tree = kept_tree m n t xs (kept_fewer m n t (b ∷ xs) xs (λ z i. inr i) k) (tree_of m t b key xs c) in
-    record {
-      holds = holds_kept m n (t.context.at ∷ b ∷ xs) k.lengths c.holds;
-      room = record {
-        context = tree.room.context;
-        nodes = λ x i. kept_room m n t.form x (k.lengths x (inr i)) (k.keys x i) (c.room.nodes x i);
-      };
-      lays = tree.lays;
-      key_is = ap (λ (r : Rank). r.1) (k.keys b (inl refl)) ∙ c.key_is;
-      other = λ x i e. c.other x i (sym (k.keys x (inr i)) ∙ (e ∙ k.keys b (inl refl)));
-    }
-
 -- A block can be put into a tree that stays, where no block of it had the block's hash and key.
 pub can_insert : (m n : Words) (t : Tree) (b hash : ℕ) (key xs : List ℕ) → KeepsTree m n t xs → IsTree m t xs → ((x : ℕ) → In x xs → rank_of m t.form x ≢ (hash, key)) →
     HoldsBlocks n (t.context.at ∷ b ∷ xs) → HoldsKey n t.form b → rank_of n t.form b ≡ (hash, key) → CanInsert n t b key xs
@@ -129,6 +107,24 @@ kept_blocks m n t xs same = record {
   root = same_word m n t.context.at 0 (same t.context.at (inl refl));
   nodes = λ z i. (same_block m n t.form z (same z (inr i))).0;
   keys = λ z i. (same_block m n t.form z (same z (inr i))).1;
+}
+
+-- a grant of a block leaves a tree
+pub granted_tree : (m n : Words) (at count : ℕ) (t : Tree) (xs : List ℕ) → GrantsWords m n at count → IsTree m t xs → IsTree n t xs
+granted_tree m n at count t xs g h =
+    kept_tree m n t xs (kept_blocks m n t xs (granted_same m n at count (t.context.at ∷ xs) g h.holds.live)) h
+
+-- and so does the return of a block that isn't the context or one of the tree
+pub returned_tree : (m n : Words) (at : ℕ) (t : Tree) (xs : List ℕ) → ReturnsWords m n at → (In at (t.context.at ∷ xs) → ⊥) → IsTree m t xs → IsTree n t xs
+returned_tree m n at t xs r out h =
+    kept_tree m n t xs (kept_blocks m n t xs (returned_same m n at (t.context.at ∷ xs) r out)) h
+
+-- a new block of eight words or more, above offset 0 and below 2^63, can be a context
+pub granted_context : (m n : Words) (t : Tree) (count : ℕ) → GrantsWords m n t.context.at count → 8 ≤ count → 0 < t.context.at → t.context.at + 8 * count ≤ 2 ^ 63 → IsContext n t
+granted_context m n t count g room above below = record {
+  room = omega (arith, g.long, room);
+  above = above;
+  below = omega (arith, g.long, below);
 }
 
 -- the bytes of the key stay

@@ -1,4 +1,4 @@
--- Of the inside, which no caller reads: drawn trees, positions in them, and the states between the steps of a repair.
+-- Of the inside, which no caller reads: drawn trees, positions in them, and the states between the steps of a fixup.
 pub mod Sides
 pub mod Shape
 pub mod Links

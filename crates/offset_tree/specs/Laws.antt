@@ -10,6 +10,6 @@ DigitsLaw = (m : ℕ) → m ≢ 0 → (m < 2 ^ bits m) × (2 ^ bits m ≤ 2 * m)
 abbrev pub MoreBlocksLaw : Type 0
 MoreBlocksLaw = (n most len : ℕ) → n ≤ most → search_cost n len ≤ search_cost most len
 
--- a search among a thousand blocks for a key of four bytes reads at most 105 words
+-- a search among a thousand blocks for a key of four bytes counts at most 105 steps
 abbrev pub ThousandRow : Type 0
 ThousandRow = search_cost 1000 4 ≡ 105

@@ -35,7 +35,7 @@ fn calm<B: Blocks, L: Ledger>(
     rotate(blocks, t, p, side, steps);
 }
 
-/// Ends the repair where the sibling `w` has the red outer child `v`.
+/// Ends the delete fixup where the sibling `w` has the red outer child `v`.
 fn finish<B: Blocks, L: Ledger>(
     blocks: &mut B,
     t: &Tree,
@@ -170,7 +170,7 @@ fn sink<B: Blocks, L: Ledger>(
     })
 }
 
-/// One step of the repair: it ends, or goes on at the parent.
+/// One step of the delete fixup: it ends, or goes on at the parent.
 fn delete_fixup_step<B: Blocks, L: Ledger>(
     blocks: &mut B,
     t: &Tree,

@@ -16,7 +16,8 @@ impl Tree {
     /// The block of this hash and key; none exactly where no block of the tree has both.
     ///
     /// Hashes are compared first, as nginx's look-ups by name do, then the keys' bytes, and last their lengths. Among
-    /// `n` blocks it reads at most `(2 * bits(n + 1) + 1) * (5 + len / 8)` words for a key of `len` bytes.
+    /// `n` blocks, for a key of `len` bytes, at most `(2 * bits(n + 1) + 1) * (5 + len / 8)` steps are counted, each a
+    /// word that is read.
     pub fn find<B: Blocks, L: Ledger>(
         &self,
         blocks: &B,

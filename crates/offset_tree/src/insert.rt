@@ -62,7 +62,8 @@ fn gap_for<B: Blocks, L: Ledger>(
 impl Tree {
     /// Puts a block into the tree (`ngx_rbtree_insert`). Its words hold the key's hash, length and bytes already.
     ///
-    /// It reads at most three times as many words as a search for the key may read, and 24 more, with those of the repair.
+    /// The counted steps, each a word that is read, are at most three times those of a search for the key, and 24 more;
+    /// those of the insert fixup are among them.
     pub fn insert<B: Blocks, L: Ledger>(
         &self,
         blocks: &mut B,

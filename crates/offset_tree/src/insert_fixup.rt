@@ -89,7 +89,7 @@ fn resolve<B: Blocks, L: Ledger>(
     }
 }
 
-/// One step of the repair: it ends, or goes on at the grandparent.
+/// One step of the insert fixup: it ends, or goes on at the grandparent.
 fn insert_fixup_step<B: Blocks, L: Ledger>(
     blocks: &mut B,
     t: &Tree,

@@ -1,4 +1,4 @@
--- The states of the repair after a black block was taken out.
+-- The states of the delete fixup, after a black block was taken out.
 use Rattle.std.specs.Prelude.{ℕ, ◌≡◌, ◌+◌, suc, Bool, true, false, List}
 use Rattle.zone_region.specs.Words.{Words}
 use Rattle.offset_tree.specs.declared.side.Side.{Side}

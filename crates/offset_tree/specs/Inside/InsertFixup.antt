@@ -1,4 +1,4 @@
--- The states of the repair after a block was put in.
+-- The states of the insert fixup, after a red block was put in.
 use Rattle.std.specs.Prelude.{ℕ, ◌≡◌, suc, true, false, List}
 use Rattle.zone_region.specs.Words.{Words}
 use Rattle.offset_tree.specs.declared.side.Side.{Side}
