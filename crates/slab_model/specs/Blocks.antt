@@ -53,3 +53,13 @@ live_bytes slab at = if nat_lt at (start_of slab.shape) then 0 else live_in_page
 -- a live block begins at this offset
 abbrev pub IsLive : Slab → ℕ → Type 0
 IsLive slab at = 0 < live_bytes slab at
+
+-- ---- counting blocks
+
+-- once if a live block begins at this offset
+abbrev pub live_at : Slab → ℕ → ℕ
+live_at slab at = if nat_lt 0 (live_bytes slab at) then 1 else 0
+
+-- once if this block begins at this offset
+abbrev pub once_at : ℕ → ℕ → ℕ
+once_at at block = if nat_eq block at then 1 else 0
