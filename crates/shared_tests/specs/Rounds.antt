@@ -1,12 +1,12 @@
 -- Callers of a row of counters that lower only what they raised.
 use Rattle.std.specs.Prelude.{◌≡◌, ℕ, ◌+◌, ◌*◌, ◌≤◌, Some, length, replicate, slice_index, sum_by}
 use Rattle.zone_counters.specs.declared.CounterState.{CounterState}
-use Rattle.zone_counters.specs.Counting.{Made, opened, given, back}
+use Rattle.zone_counters.specs.Counting.{Made, zero_counters, given, back}
 use Rattle.shared_zone.specs.Callers.{ZoneId, Zone, Caller, made}
 
 -- a zone of two counters, opened for sixteen passes with room for 64 calls each
 abbrev pub home : ZoneId → Zone CounterState
-home id = record { id = id; start = Some (opened 2); rooms = replicate 16 64 }
+home id = record { id = id; start = Some (zero_counters 2); rooms = replicate 16 64 }
 
 -- at each place the pass has lowered at most as often as it raised
 abbrev pub LowersOwn : Caller CounterState Made → Type 0

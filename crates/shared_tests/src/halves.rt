@@ -1,7 +1,7 @@
 //! Sixteen passes whose rounds are divided among threads by halving.
 ghost use Rattle.std.specs.Prelude.{◌≡◌, ◌*◌, ◌≤◌, IfOk, All, vec_len};
 ghost use Rattle.zone_object.specs.History.{HasRun};
-ghost use Rattle.zone_counters.specs.Counting.{AreZero, Lays, Permits, opened, reply_of, state_after};
+ghost use Rattle.zone_counters.specs.Counting.{AreZero, Lays, Permits, zero_counters, reply_of, state_after};
 ghost use Rattle.shared_tests.specs.Rounds.{home, MayGo};
 ghost use denote.Param.Send.{IsSync};
 
@@ -74,7 +74,7 @@ pub fn sixteen<R: Threads + Wait + Sync>(
     rt: &R,
     alloc: Global,
 ) -> Result<(Counters, Vec<Entry<Counters>>), NoMemory>
-    ensures { IfOk result (λ r. HasRun AreZero Lays reply_of state_after Permits (opened 2) r.0 r.1.items) }
+    ensures { IfOk result (λ r. HasRun AreZero Lays reply_of state_after Permits (zero_counters 2) r.0 r.1.items) }
 {
     let (zone, passes) = opened_zone(rt, alloc)?;
     let passes = all_rounds(rt, alloc, &zone, passes, 32)?;

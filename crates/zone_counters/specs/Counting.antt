@@ -21,8 +21,8 @@ abbrev pub AreZero : CounterState → Type 0
 AreZero s = (at : ℕ) → slice_index s.counts at ≡ 0
 
 -- so many counters that say 0
-abbrev pub opened : ℕ → CounterState
-opened places = record { counts = replicate places 0 }
+abbrev pub zero_counters : ℕ → CounterState
+zero_counters places = record { counts = replicate places 0 }
 
 -- what the counter at this place says, 0 where there is none
 abbrev pub count_at : CounterState → ℕ → ℕ

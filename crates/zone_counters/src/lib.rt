@@ -3,7 +3,7 @@
 #![tactic(auto)]
 
 ghost use Rattle.std.specs.Prelude.{IfOk};
-ghost use Rattle.zone_counters.specs.Counting.{Lays, AreZero, opened};
+ghost use Rattle.zone_counters.specs.Counting.{Lays, AreZero, zero_counters};
 
 use slab_model::Stat;
 use std::alloc::Global;
@@ -57,8 +57,8 @@ impl Model for Counters {
 impl Counters {
     /// So many counters that say 0. It fails only where there is no memory for them.
     pub fn new(alloc: Global, places: u64) -> Result<Counters, NoMemory>
-        ensures laid { IfOk result (λ c. Lays c (opened places)) }
-        ensures quiet { AreZero (opened places) }
+        ensures laid { IfOk result (λ c. Lays c (zero_counters places)) }
+        ensures quiet { AreZero (zero_counters places) }
     {
         Ok(Counters {
             words: vec![in alloc; 0u64; places as usize]?,
