@@ -145,12 +145,15 @@ fn shown(alloc: Global, text: &[u8]) -> Result<Vec<u8>, AllocError> {
 
 #[test]
 fn texts_say(rt: HostRuntime) -> Result<(), AllocError> {
+    let mut tried = 0u64;
     for case in CASES.split('|') {
         if let Some((text, want)) = case.split_once('~') {
             let found = shown(rt.alloc(), text.as_bytes())?;
             assert!(rt; found.as_slice() == want.as_bytes(), "{text}");
+            tried = tried.wrapping_add(1);
         }
     }
+    assert_eq!(rt; tried, 101);
     Ok(())
 }
 
