@@ -1,8 +1,8 @@
 -- Where the words of a zone stand, by the names of `ngx_slab_pool_t`, `ngx_slab_stat_t` and `ngx_slab_page_t`. A place is the number of a word; links hold byte offsets.
-use Rattle.std.specs.Prelude.{ℕ, ◌≡◌, ◌⊎◌, length, ◌+◌, ◌*◌, ◌-◌, ◌/◌, Bool, false, ◌&&◌, ◌||◌, nat_le, nat_eq, List, slice_index}
+use Rattle.std.specs.Prelude.{ℕ, ◌≡◌, ◌⊎◌, length, ◌+◌, ◌*◌, ◌-◌, ◌/◌, ◌^◌, Bool, false, ◌&&◌, ◌||◌, nat_le, nat_eq, List, slice_index}
 use Rattle.slab_model.specs.declared.runs.Run.{Run}
 use Rattle.slab_model.specs.declared.shape.Shape.{Shape}
-use Rattle.slab_model.specs.Geometry.{blocks_in_page, greatest_zone, page_offset}
+use Rattle.slab_model.specs.Geometry.{only_shift, blocks_in_page, greatest_zone, page_offset}
 use Rattle.slab_model.specs.Runs.{is_covered}
 
 -- a zone: its shape, and its words
@@ -14,9 +14,9 @@ pub record Image : Type 0 where
 abbrev pub byte_of : ℕ → ℕ
 byte_of w = 8 * w
 
--- no zone has more pages, of which the smallest have 4096 bytes
+-- no zone has more pages: the smallest have two to the only page shift bytes
 abbrev pub page_limit : ℕ
-page_limit = greatest_zone / 4096
+page_limit = greatest_zone / 2 ^ only_shift
 
 -- no zone has more words
 abbrev pub word_limit : ℕ
