@@ -65,9 +65,6 @@ limit-small shape class r low fits = subst (λ (k : Kind). r < bits_limit k) (sy
 pub limit-exact : (shape : Shape) (class r : ℕ) → class ≡ 3 → r < 2 ^ 64 → r < bits_limit (kind_of shape class)
 limit-exact shape class r at fits = subst (λ (k : Kind). r < bits_limit k) (sym (kind-exact shape class at)) fits
 
-pub limit-big : (shape : Shape) (class r : ℕ) → 3 < class → class < 9 → r < 2 ^ 32 → r < bits_limit (kind_of shape class)
-limit-big shape class r high known fits = subst (λ (k : Kind). r < bits_limit k) (sym (kind-big shape class high known)) fits
-
 below-big : (shape : Shape) (class r : ℕ) → 3 < class → class < 9 → r < bits_limit (kind_of shape class) → r < 2 ^ 32
 below-big shape class r high known fits = subst (λ (k : Kind). r < bits_limit k) (kind-big shape class high known) fits
 
@@ -143,9 +140,6 @@ sets-big class page j o v old new more ne3 known t inside fits is written =
 
 pub changes-both : (shape : Shape) (class page : ℕ) (old mid new : List ℕ) → ChangesBits shape class page old mid → ChangesBits shape class page mid new → ChangesBits shape class page old new
 changes-both shape class page old mid new h k = record { same_length = k.same_length ∙ h.same_length; others = λ w ne out. k.others w ne out ∙ h.others w ne out }
-
-pub changes-none : (shape : Shape) (class page : ℕ) (old : List ℕ) → ChangesBits shape class page old old
-changes-none shape class page old = record { same_length = refl; others = λ w ne out. refl }
 
 -- ---- a bit is set, and is cleared
 
@@ -321,14 +315,6 @@ all-found words shape page class from j v s r used before first room begins low 
       high low ones (inr g) = g
       high low ones (inl over) = absurd (omega (arith, (h.usable (blocks_in_page shape class) ((member (blocks_in_page shape class) used).0 (ones (blocks_in_page shape class) room over))).1))
 
-pub all-none : (words : List ℕ) (shape : Shape) (page class from j n : ℕ) (used : List ℕ) → AllBefore words shape page class from j → from ≤ blocks_in_page shape class → bitmap_words shape class ≤ j → n ≡ blocks_in_page shape class → HasBits words shape page class used → IsFirstUnused shape class from used n
-all-none words shape page class from j n used before room past n_is h = record {
-  low = omega (arith, room, n_is);
-  high = omega (arith, n_is);
-  between = λ k above below. before used h k above (omega (arith, below, n_is, past, (numbers shape class h.known).holds));
-  unused = λ less. absurd (omega (arith, less, n_is));
-}
-
 -- ---- the bits of a page are begun
 
 -- the words before this one are those of a page without a used index
@@ -336,9 +322,6 @@ pub record Begun (shape : Shape) (class page j : ℕ) (words : List ℕ) : Type 
   pub bits : (i : ℕ) → i < j → IsBitsWord shape class i [] (bits_word (kind_of shape class) words shape page i)
   pub small_shift : kind_of shape class ≡ small → HasShift small words page class
   pub shift : 0 < j → HasShift (kind_of shape class) words page class
-
-pub begun-none : (shape : Shape) (class page : ℕ) (words : List ℕ) → (kind_of shape class ≡ small → HasShift small words page class) → Begun shape class page 0 words
-begun-none shape class page words small_shift = record { bits = λ i low. absurd (omega (arith, low)); small_shift = small_shift; shift = λ some. absurd (omega (arith, some)) }
 
 pub begun-more : (shape : Shape) (class page j v : ℕ) (old new : List ℕ) → j < bitmap_words shape class → Begun shape class page j old → SetsBits shape class page j v old new → IsBitsWord shape class j [] v → Begun shape class page (j + 1) new
 begun-more shape class page j v old new low b s own = record {

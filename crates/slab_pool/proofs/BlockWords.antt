@@ -6,7 +6,7 @@ use Rattle.std.proofs.lemmas.List.Edits.{length-between}
 use Rattle.std.proofs.Math.Nat.{mul-le-mul_left}
 use Rattle.std.proofs.lemmas.Grind.{common_steps}
 use Rattle.slab_model.specs.declared.shape.Shape.{Shape}
-use Rattle.slab_model.specs.Geometry.{kind_of, class_size, blocks_in_page, first_index, start_of, pages_of, page_offset}
+use Rattle.slab_model.specs.Geometry.{kind_of, page_size, class_size, blocks_in_page, first_index, start_of, pages_of, page_offset}
 use Rattle.slab_model.specs.State.{Slab}
 use Rattle.slab_model.specs.Blocks.{IsLive, live_bytes, page_number, place_in_page}
 use Rattle.slab_model.proofs.ClassLemmas.{cuts, zone}
@@ -26,7 +26,7 @@ use Rattle.slab_pool.proofs.DecodeLemmas.{class-type, class_in-class, first-type
 -- what it takes for a word not to be one of a bitmap
 pub record InPage (image : Image) (w page place : ℕ) : Type 0 where
   pub at : 8 * w ≡ page_offset image.shape page + place
-  pub fits : place < 4096
+  pub fits : place < page_size image.shape
   pub none : page_type image.words page ≡ 3 → bitmap_words image.shape (class_in image.words page) ≤ place / 8
 
 no_bitmap : (image : Image) (w page place : ℕ) → InPage image w page place → is_bitmap_word image w ≡ false

@@ -21,9 +21,6 @@ pub descriptor-not_head : (class page : ℕ) → class < 9 → descriptor page �
 unfolding descriptor
 descriptor-not_head class page known e = omega arith
 
-pub node-eight : (class o : ℕ) → IsNode class o → o % 8 ≡ 0
-node-eight class o node = elim node [ inl e ↦ omega (arith, e) | inr m ↦ omega (arith, m.1, descriptor-eight m.0) ]
-
 -- two nodes have three words each
 pub nodes_apart : (class x y : ℕ) → class < 9 → IsNode class x → IsNode class y → x ≢ y → (x / 8 + 3 ≤ y / 8) ⊎ (y / 8 + 3 ≤ x / 8)
 nodes_apart class x y known px py ne = elim px [

@@ -23,9 +23,6 @@ use Rattle.slab_pool.specs.Live.{KeepsPages}
 
 -- ---- the pool's image is one of the slab's shape
 
-pub of_slab : (P : Image → Type 0) (image : Image) (slab : Slab) → LaysPool image slab → P image → P (record { shape = slab.shape; words = image.words })
-of_slab P image slab p h = subst (λ (s : Shape). P (record { shape = s; words = image.words })) (sym p.shape_is) h
-
 pub of_image : (P : Image → Type 0) (image : Image) (slab : Slab) → LaysPool image slab → P (record { shape = slab.shape; words = image.words }) → P image
 of_image P image slab p h = subst (λ (s : Shape). P (record { shape = s; words = image.words })) p.shape_is h
 
@@ -41,15 +38,6 @@ keeps-pages old new runs sound h shape = record {
   pages = λ w past _ _. h.others w (list_word-past w (omega (arith, past))) (run_word-past (pages_of old.shape) runs w sound past);
   log_ctx = h.others log_ctx_word refl (run_word-before runs log_ctx_word (omega arith));
   data_is = h.others data_word refl (run_word-before runs data_word (omega arith));
-}
-
-pub keeps-same : (old new : Image) → new ≡ old → KeepsPages old new
-keeps-same old new e = record {
-  shape_is = ap (λ (i : Image). i.shape) e;
-  same_length = ap (λ (i : Image). length i.words) e;
-  pages = λ w _ _ _. ap (λ (i : Image). get_or i.words w 0) e;
-  log_ctx = ap (λ (i : Image). get_or i.words log_ctx_word 0) e;
-  data_is = ap (λ (i : Image). get_or i.words data_word 0) e;
 }
 
 -- ---- a run is granted

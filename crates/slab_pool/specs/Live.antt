@@ -15,9 +15,13 @@ use Rattle.slab_pool.specs.Bits.{bits_word}
 abbrev pub page_type : List ℕ → ℕ → ℕ
 page_type words page = prev_at words (descriptor page) % 4
 
+-- the class of 64 blocks in a page
+abbrev pub exact_class : ℕ
+exact_class = 3
+
 -- the class of a page of a class: that of 64 blocks, or the one whose shift stands in the slab word
 abbrev pub class_in : List ℕ → ℕ → ℕ
-class_in words page = if nat_eq (page_type words page) 2 then 3 else slab_at words (descriptor page) % 2 ^ 32 - 3
+class_in words page = if nat_eq (page_type words page) 2 then exact_class else slab_at words (descriptor page) % 2 ^ 32 - 3
 
 -- ---- live blocks
 

@@ -1,5 +1,5 @@
 ghost use Rattle.std.specs.Prelude.{◌≡◌, ℕ, ◌+◌, ◌*◌, ◌/◌, ◌<◌, ◌≤◌, [], List, IsTrue, ◌↔◌};
-ghost use Rattle.slab_model.specs.Geometry.{IsInLimits, blocks_in_page as blocks_of, first_index as first_of, kind_of, small};
+ghost use Rattle.slab_model.specs.Geometry.{IsInLimits, class_count, blocks_in_page as blocks_of, first_index as first_of, kind_of, small};
 ghost use Rattle.slab_model.specs.Numbers.{is_member, with_number, without};
 ghost use Rattle.slab_pages.specs.Places.{bitmap_words as bitmap_words_of, page_word as page_word_of};
 ghost use Rattle.slab_pages.specs.SlabLayout.{LaysBits};
@@ -16,7 +16,7 @@ pub(crate) const EXACT: u32 = 3;
 
 // The words that hold the bits of a page of the class.
 fn bitmap_words(pages: &Pages, class: u32) -> u64
-    requires { class < 9 }
+    requires { class < class_count pages.now.shape }
     ensures { result ≡ bitmap_words_of pages.now.shape class }
 {
     (blocks_in_page(shape_of(pages), class) + 63) / 64
@@ -33,7 +33,7 @@ fn page_word(pages: &Pages, page: u64) -> u64
 // Word `j` of a page's bits.
 fn bits(pages: &Pages, class: u32, page: u64, j: u64) -> u64
     requires taken { IsTaken pages.now page }
-    requires known { class < 9 }
+    requires known { class < class_count pages.now.shape }
     requires word { j < bitmap_words_of pages.now.shape class }
     ensures value { result ≡ bits_word (kind_of pages.now.shape class) pages.now.words pages.now.shape page j }
     ensures small { result < bits_limit (kind_of pages.now.shape class) }
@@ -50,7 +50,7 @@ fn bits(pages: &Pages, class: u32, page: u64, j: u64) -> u64
 // Makes word `j` of a page's bits be `v`.
 fn set_bits(pages: &mut Pages, class: u32, page: u64, j: u64, v: u64)
     requires taken { IsTaken pages.old page }
-    requires known { class < 9 }
+    requires known { class < class_count pages.old.shape }
     requires word { j < bitmap_words_of pages.old.shape class }
     requires small { v < bits_limit (kind_of pages.old.shape class) }
     ensures runs { KeepsRuns pages.old pages.new }
@@ -134,7 +134,7 @@ pub(crate) fn clear(pages: &mut Pages, class: u32, page: u64, index: u64)
 // Word `j` of the bits of a page without a used index: those of the bits' own blocks are set.
 fn own_bits(shape: Shape, class: u32, j: u64) -> u64
     requires limits { IsInLimits shape }
-    requires known { class < 9 }
+    requires known { class < class_count shape }
     ensures own { IsBitsWord shape class j [] result }
     ensures small { result < bits_limit (kind_of shape class) }
 {
@@ -162,7 +162,7 @@ pub(crate) fn is_unused(pages: &Pages, class: u32, page: u64) -> bool
 // Writes the slab word of a small class's page, which has the class's shift.
 fn begin_shift(pages: &mut Pages, class: u32, page: u64)
     requires taken { IsTaken pages.old page }
-    requires known { class < 9 }
+    requires known { class < class_count pages.old.shape }
     ensures runs { KeepsRuns pages.old pages.new }
     ensures changes { ChangesBits pages.old.shape class page pages.old.words pages.new.words }
     ensures shift { kind_of pages.old.shape class ≡ small → HasShift small pages.new.words page class }
@@ -175,7 +175,7 @@ fn begin_shift(pages: &mut Pages, class: u32, page: u64)
 // Writes the bits of a page without a used index.
 pub(crate) fn begin_bits(pages: &mut Pages, class: u32, page: u64)
     requires taken { IsTaken pages.old page }
-    requires known { class < 9 }
+    requires known { class < class_count pages.old.shape }
     ensures runs { KeepsRuns pages.old pages.new }
     ensures changes { ChangesBits pages.old.shape class page pages.old.words pages.new.words }
     ensures begun { HasBits pages.new.words pages.old.shape page class [] }

@@ -1,7 +1,7 @@
 ghost use Rattle.std.specs.Prelude.{◌≡◌, ℕ, ◌+◌, ◌<◌, ◌≤◌, [], ◌∷◌, List, None, Some};
 ghost use Rattle.zone_region.specs.Members.{In};
 ghost use Rattle.slab_model.specs.declared.page.PageState.TheVariants.{First};
-ghost use Rattle.slab_model.specs.Geometry.{greatest_zone, blocks_in_page as blocks_of, block_offset, first_index as first_of};
+ghost use Rattle.slab_model.specs.Geometry.{greatest_zone, class_count, blocks_in_page as blocks_of, block_offset, first_index as first_of};
 ghost use Rattle.slab_model.specs.Runs.{first_fit};
 ghost use Rattle.slab_model.specs.State.{Slab, list_of, page_at};
 ghost use Rattle.slab_model.specs.Blocks.{used_in};
@@ -25,7 +25,7 @@ use zone_region::Block;
 // The block of an index in a page of a class.
 fn block_at(pages: &Pages, class: u32, page: u64, index: u64) -> Block
     requires taken { IsTaken pages.now page }
-    requires known { class < 9 }
+    requires known { class < class_count pages.now.shape }
     requires low { index < blocks_of pages.now.shape class }
     ensures { result.at ≡ block_offset pages.now.shape page class index }
 {
@@ -52,7 +52,7 @@ fn leave_if_full(pages: &mut Pages, class: u32, page: u64, index: u64)
 
 // Grants the lowest free index of the first page of the class's list.
 fn grant_in_page(pages: &mut Pages, class: u32, page: u64) -> Block
-    requires known { class < 9 }
+    requires known { class < class_count pages.old.shape }
     requires laid { ((slab : Slab) × (rest : List ℕ) × LaysPool pages.old slab × (list_of slab class ≡ page ∷ rest)) }
     ensures granted { (slab : Slab) (rest : List ℕ) → LaysPool pages.old slab → list_of slab class ≡ page ∷ rest →
         Answers (granted_in_page slab class page rest (used_in (page_at slab.pages page))) (Some result.at) pages.new }
@@ -67,7 +67,7 @@ fn grant_in_page(pages: &mut Pages, class: u32, page: u64) -> Block
 
 // Grants the first block of a page that was just taken, which becomes the class's only listed page.
 fn grant_in_taken_page(pages: &mut Pages, class: u32, page: u64) -> Block
-    requires known { class < 9 }
+    requires known { class < class_count pages.old.shape }
     requires laid { ((slab : Slab) × LaysPool pages.old slab × (page_at slab.pages page ≡ First 1) × (list_of slab class ≡ [])) }
     ensures block { result.at ≡ block_offset pages.old.shape page class (first_of pages.old.shape class) }
     ensures begins { (slab : Slab) → LaysPool pages.old slab → page_at slab.pages page ≡ First 1 → list_of slab class ≡ [] → BeginsPage slab class page pages.new }
@@ -84,7 +84,7 @@ fn grant_in_taken_page(pages: &mut Pages, class: u32, page: u64) -> Block
 
 // Grants the first block of a free page, if there is one.
 fn grant_in_new_page(pages: &mut Pages, class: u32) -> Option<Block>
-    requires known { class < 9 }
+    requires known { class < class_count pages.old.shape }
     requires laid { ((slab : Slab) × LaysPool pages.old slab × (list_of slab class ≡ [])) }
     ensures granted { (slab : Slab) → LaysPool pages.old slab → list_of slab class ≡ [] →
         Answers (granted_in_new_page slab class (first_fit 1 slab.runs)) (offset_in result) pages.new }
@@ -101,7 +101,7 @@ fn grant_in_new_page(pages: &mut Pages, class: u32) -> Option<Block>
 
 // Grants a block of the class, if there is one.
 fn grant_in_class(pages: &mut Pages, class: u32) -> Option<Block>
-    requires known { class < 9 }
+    requires known { class < class_count pages.old.shape }
     requires laid { ((slab : Slab) × LaysPool pages.old slab) }
     ensures granted { (slab : Slab) → LaysPool pages.old slab → Answers (granted_from_list slab class (list_of slab class)) (offset_in result) pages.new }
     ensures kept { KeepsPages pages.old pages.new }

@@ -1,6 +1,6 @@
 ghost use Rattle.std.specs.Prelude.{◌≡◌, ℕ, ◌+◌, ◌/◌, ◌<◌, ◌≤◌, [], ◌∷◌, List, MatchOption};
 ghost use Rattle.zone_region.specs.Members.{In};
-ghost use Rattle.slab_model.specs.Geometry.{kind_of};
+ghost use Rattle.slab_model.specs.Geometry.{class_count, kind_of};
 ghost use Rattle.slab_pages.specs.Places.{class_head, descriptor};
 ghost use Rattle.slab_pages.specs.SlabLayout.{type_of as type_of_kind};
 ghost use Rattle.slab_pool.specs.Links.{LinksPages};
@@ -12,7 +12,7 @@ use slab_pages::{Pages, offset_of, page_of};
 
 // The type of a class's pages, in the low two bits of their prev word.
 fn type_of(pages: &Pages, class: u32) -> u64
-    requires { class < 9 }
+    requires { class < class_count pages.now.shape }
     ensures { result ≡ type_of_kind (kind_of pages.now.shape class) }
 {
     if class < EXACT {
@@ -26,7 +26,7 @@ fn type_of(pages: &Pages, class: u32) -> u64
 
 // Makes the descriptor at `b` follow the one at `a` in the class's list.
 fn link(pages: &mut Pages, class: u32, a: u64, b: u64)
-    requires known { class < 9 }
+    requires known { class < class_count pages.old.shape }
     requires runs { HasRuns pages.old }
     requires from { IsTakenNode pages.old class a }
     requires to { IsTakenNode pages.old class b }
@@ -42,7 +42,7 @@ fn link(pages: &mut Pages, class: u32, a: u64, b: u64)
 
 // The first page of the class's list.
 pub(crate) fn first_page(pages: &Pages, class: u32) -> Option<u64>
-    requires known { class < 9 }
+    requires known { class < class_count pages.now.shape }
     requires runs { HasRuns pages.now }
     requires list { ((listed : List ℕ) × HasList pages.now class listed) }
     ensures { (listed : List ℕ) → HasList pages.now class listed →
@@ -57,7 +57,7 @@ pub(crate) fn first_page(pages: &Pages, class: u32) -> Option<u64>
 
 // Takes a page out of the class's list.
 pub(crate) fn unlink(pages: &mut Pages, class: u32, page: u64)
-    requires known { class < 9 }
+    requires known { class < class_count pages.old.shape }
     requires taken { IsTaken pages.old page }
     requires list { ((listed : List ℕ) × HasList pages.old class listed × In page listed) }
     ensures runs { KeepsRuns pages.old pages.new }
@@ -74,7 +74,7 @@ pub(crate) fn unlink(pages: &mut Pages, class: u32, page: u64)
 
 // Puts a page at the head of the class's list.
 pub(crate) fn push(pages: &mut Pages, class: u32, page: u64)
-    requires known { class < 9 }
+    requires known { class < class_count pages.old.shape }
     requires taken { IsTaken pages.old page }
     requires list { ((listed : List ℕ) × HasList pages.old class listed × (In page listed → ⊥)) }
     ensures runs { KeepsRuns pages.old pages.new }

@@ -1,14 +1,14 @@
 ghost use Rattle.std.specs.Prelude.{◌≡◌, ℕ, ◌+◌, ◌*◌, ◌/◌, ◌<◌, ◌≤◌, length};
 ghost use Rattle.slab_model.specs.Geometry.{IsInLimits, start_of, page_offset as offset_in};
 ghost use Rattle.slab_model.specs.Blocks.{page_number as number_of};
-ghost use Rattle.slab_pages.specs.Places.{class_head, page_limit, slab_at, next_at, prev_at};
+ghost use Rattle.slab_pages.specs.Places.{head_count, class_head, page_limit, slab_at, next_at, prev_at};
 
 use slab_model::{Shape, page_size};
 use slab_pages::{Pages, byte_offset, head_at};
 
 // Byte offset of the head of a class's list, as links hold it.
 pub(crate) fn head_of(class: u32) -> u64
-    requires { class < 9 }
+    requires { class < head_count }
     ensures { result ≡ class_head class }
 {
     byte_offset(head_at(class))

@@ -1,5 +1,6 @@
 ghost use Rattle.std.specs.Prelude.{◌≡◌, ℕ, ◌<◌, ◌≤◌, List};
 ghost use Rattle.slab_model.specs.declared.page.PageState.TheVariants.{Class};
+ghost use Rattle.slab_model.specs.Geometry.{page_size as page_bytes};
 ghost use Rattle.slab_model.specs.State.{Slab, page_at, pages_in};
 ghost use Rattle.slab_pool.specs.Bits.{HasBits};
 ghost use Rattle.slab_pool.specs.Pool.{LaysPool};
@@ -18,7 +19,7 @@ use slab_pages::{Pages, offset_of};
 fn refusal_in_class(pages: &Pages, class: u32, page: u64, place: u64) -> Option<FreeFault>
     requires taken { IsTaken pages.now page }
     requires bits { ((used : List ℕ) × HasBits pages.now.words pages.now.shape page class used) }
-    requires low { place < 4096 }
+    requires low { place < page_bytes pages.now.shape }
     ensures { (used : List ℕ) → HasBits pages.now.words pages.now.shape page class used → result ≡ refused_in_class pages.now.shape class used place }
 {
     let size = class_size(class);

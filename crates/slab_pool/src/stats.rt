@@ -1,5 +1,6 @@
 ghost use Rattle.std.specs.Prelude.{◌≡◌, ◌+◌, ◌^◌, ◌<◌, ◌≤◌};
 ghost use Rattle.slab_model.specs.declared.stat.Stat.{Stat as StatOf};
+ghost use Rattle.slab_model.specs.Geometry.{class_count};
 ghost use Rattle.slab_model.specs.Counting.{count_grant as counted_grant, count_fail as counted_fail, count_return as counted_return};
 ghost use Rattle.slab_pages.specs.Frames.{ChangesStat};
 ghost use Rattle.slab_pages.specs.SlabLayout.{LaysStat};
@@ -10,7 +11,7 @@ use slab_pages::{Pages, stat_at};
 
 // The statistics of a class.
 pub(crate) fn stat(pages: &Pages, class: u32) -> Stat
-    requires known { class < 9 }
+    requires known { class < class_count pages.now.shape }
     requires runs { HasRuns pages.now }
     ensures { LaysStat pages.now.words class result }
 {
@@ -25,7 +26,7 @@ pub(crate) fn stat(pages: &Pages, class: u32) -> Stat
 
 // Writes the statistics of a class.
 fn set_stat(pages: &mut Pages, class: u32, stat: Stat)
-    requires known { class < 9 }
+    requires known { class < class_count pages.old.shape }
     requires runs { HasRuns pages.old }
     ensures runs { KeepsRuns pages.old pages.new }
     ensures changes { ChangesStat pages.old.words pages.new.words class }
@@ -40,7 +41,7 @@ fn set_stat(pages: &mut Pages, class: u32, stat: Stat)
 
 // Counts a request that was given a block, after which the class can grant `more` blocks more.
 pub(crate) fn count_grant(pages: &mut Pages, class: u32, more: u64)
-    requires known { class < 9 }
+    requires known { class < class_count pages.old.shape }
     requires runs { HasRuns pages.old }
     requires few { ((s : StatOf) × LaysStat pages.old.words class s × (s.total + more < 2 ^ 64) × (s.used + 1 < 2 ^ 64)) }
     ensures runs { KeepsRuns pages.old pages.new }
@@ -59,7 +60,7 @@ pub(crate) fn count_grant(pages: &mut Pages, class: u32, more: u64)
 
 // Counts a request that was given no block.
 pub(crate) fn count_fail(pages: &mut Pages, class: u32)
-    requires known { class < 9 }
+    requires known { class < class_count pages.old.shape }
     requires runs { HasRuns pages.old }
     ensures runs { KeepsRuns pages.old pages.new }
     ensures changes { ChangesStat pages.old.words pages.new.words class }
@@ -77,7 +78,7 @@ pub(crate) fn count_fail(pages: &mut Pages, class: u32)
 
 // Counts a block that came back, after which the class can grant `less` blocks less.
 pub(crate) fn count_return(pages: &mut Pages, class: u32, less: u64)
-    requires known { class < 9 }
+    requires known { class < class_count pages.old.shape }
     requires runs { HasRuns pages.old }
     requires enough { ((s : StatOf) × LaysStat pages.old.words class s × (less ≤ s.total) × (0 < s.used)) }
     ensures runs { KeepsRuns pages.old pages.new }
