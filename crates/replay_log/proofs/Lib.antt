@@ -1,0 +1,7 @@
+mod PartLemmas
+mod LineLemmas
+mod WordLemmas
+mod LocationLemmas
+mod PairLemmas
+mod NumberLemmas
+mod LimitLemmas

@@ -1,0 +1,67 @@
+ghost use Rattle.std.specs.Prelude.{◌≡◌, ℕ, List, Result};
+ghost use Rattle.replay_log.specs.Lines.{lines_of};
+ghost use Rattle.replay_log.specs.Reading.{Tells, GivesLines};
+
+use crate::cut::cut;
+use crate::fault::{LineFault, LogFault};
+use std::alloc::Global;
+
+/// The most lines that a log may have.
+const MOST_LINES: u32 = 131_072;
+
+/// A form of the lines of a log.
+pub trait LineForm {
+    /// What a line says.
+    type Line: Drop;
+
+    /// What the line of a number says, by its bytes without the line feed, or the kind of its first fault.
+    ghost says: { Self → ℕ → List ℕ → Result Self.Line ℕ };
+
+    /// Reads the line of a number, without its line feed.
+    fn read(&self, alloc: Global, number: u32, line: &[u8]) -> Result<Self::Line, LineFault>
+        ensures { Tells (says self.now number line.now) result };
+}
+
+/// The lines of a log, each ended by a line feed. It looks for each line feed once.
+///
+/// `LogFault::At` comes exactly where a line is faulty: with the number of the first one, from 1, and the kind of
+/// its first fault. A last line without a line feed is kind 1, and the 131,073rd line is kind 11, whatever else
+/// they say. `LogFault::NoMemory` comes where there is no memory for the lines.
+pub fn read_lines<F: LineForm>(
+    alloc: Global,
+    text: &[u8],
+    form: &F,
+) -> Result<Vec<F::Line>, LogFault>
+    ensures { GivesLines (lines_of (F.says form.now) text.now) result }
+{
+    let mut lines = Vec::new(alloc);
+    let mut rest = text;
+    let mut number = 1u32;
+    while !rest.is_empty() {
+        let Some((front, tail)) = cut(rest, b'\n') else {
+            return Err(LogFault::At {
+                line: u64::from(number),
+                kind: 1,
+            });
+        };
+        if number > MOST_LINES {
+            return Err(LogFault::At {
+                line: u64::from(number),
+                kind: 11,
+            });
+        }
+        match form.read(alloc, number, front) {
+            Ok(line) => lines.push(line)?,
+            Err(LineFault::Kind(kind)) => {
+                return Err(LogFault::At {
+                    line: u64::from(number),
+                    kind,
+                });
+            }
+            Err(LineFault::NoMemory) => return Err(LogFault::NoMemory),
+        }
+        rest = tail;
+        number += 1;
+    }
+    Ok(lines)
+}
