@@ -2,3 +2,9 @@ pub mod Weights
 pub mod Named
 pub mod Opens
 pub mod Closes
+pub mod NodeWords
+pub mod Finding
+pub mod Keeping
+pub mod Answering
+pub mod Stepping
+pub mod Beginning

@@ -13,26 +13,26 @@ use Rattle.conn_zone.specs.Proving.Blocks.{live_some, live_most, is_live}
 use Rattle.conn_zone.proofs.Weights.{own_sum}
 
 -- how often a number stands in a list
-times : ℕ → List ℕ → ℕ
+pub times : ℕ → List ℕ → ℕ
 times at [] = 0
 times at (block ∷ blocks) = once_at at block + times at blocks
 
-times_nodes : (at : ℕ) (table : List ConnEntry) → times at (map (λ (entry : ConnEntry). entry.block) table) ≡ nodes_at at table
+pub times_nodes : (at : ℕ) (table : List ConnEntry) → times at (map (λ (entry : ConnEntry). entry.block) table) ≡ nodes_at at table
 unfolding times
 times_nodes at [] = refl
 times_nodes at (e ∷ es) = let rest = times_nodes at es in omega (arith, rest, nodes_more at e es)
 
-times_named : (s : ConnState) (at : ℕ) → times at (blocks_of s) ≡ named_at s at
+pub times_named : (s : ConnState) (at : ℕ) → times at (blocks_of s) ≡ named_at s at
 unfolding times
 times_named s at = let rest = times_nodes at s.table in omega (arith, rest)
 
-in_times : (at : ℕ) (blocks : List ℕ) → In at blocks → 0 < times at blocks
+pub in_times : (at : ℕ) (blocks : List ℕ) → In at blocks → 0 < times at blocks
 unfolding times
 in_times at [] h = absurd h
 in_times at (block ∷ blocks) (inl same) = let one : once_at at block ≡ 1 = ap (λ (n : ℕ). once_at n block) same ∙ once_here block in omega (arith, one)
 in_times at (block ∷ blocks) (inr there) = let rest = in_times at blocks there in omega (arith, rest)
 
-times_in : (at : ℕ) (blocks : List ℕ) → 0 < times at blocks → In at blocks
+pub times_in : (at : ℕ) (blocks : List ℕ) → 0 < times at blocks → In at blocks
 unfolding times
 times_in at [] h = absurd (omega (arith, h))
 times_in at (block ∷ blocks) h = elim (cases_eq at block) [
@@ -40,13 +40,20 @@ times_in at (block ∷ blocks) h = elim (cases_eq at block) [
   | inr ne ↦ let none = once_there at block ne in inr (times_in at blocks (omega (arith, h, none)))
 ]
 
-times_distinct : (blocks : List ℕ) → ((at : ℕ) → times at blocks ≤ 1) → IsDistinct blocks
+pub times_distinct : (blocks : List ℕ) → ((at : ℕ) → times at blocks ≤ 1) → IsDistinct blocks
 unfolding times
 times_distinct [] once = tt
 times_distinct (block ∷ blocks) once = (
   λ there. let h = in_times block blocks there in let one = once_here block in let most = once block in absurd (omega (arith, h, one, most)),
   times_distinct blocks (λ at. let most = once at in omega (arith, most)),
 )
+
+-- an entry's block is in the list of the blocks
+pub in_nodes : (at : ℕ) (table : List ConnEntry) → In at (map (λ (entry : ConnEntry). entry.block) table) → 0 < nodes_at at table
+in_nodes at table there = let h = in_times at (map (λ (entry : ConnEntry). entry.block) table) there in let n = times_nodes at table in omega (arith, h, n)
+
+pub nodes_in : (at : ℕ) (table : List ConnEntry) → 0 < nodes_at at table → In at (map (λ (entry : ConnEntry). entry.block) table)
+nodes_in at table some = let n = times_nodes at table in times_in at (map (λ (entry : ConnEntry). entry.block) table) (omega (arith, n, some))
 
 pub whole-law : WholeLaw
 whole-law s whole = (

@@ -8,3 +8,7 @@ pub mod Laws
 pub mod Rows
 pub mod Proving
 pub mod ObjectLaws
+pub mod Layout
+pub mod Changes
+pub mod Opening
+pub mod Starting
