@@ -1,0 +1,5 @@
+pub mod Coding
+pub mod Amounts
+pub mod Hexadecimal
+pub mod HistoryText
+pub mod TailText

@@ -1,0 +1,16 @@
+//! The texts that the program prints, each by its definition.
+#![tactic(auto)]
+
+mod coding;
+mod hexadecimal;
+mod history;
+mod numbers;
+mod tail;
+#[cfg(test)]
+mod tests;
+pub mod theorems;
+
+pub use coding::push_coded;
+pub use history::{push_conn_entry, push_peer_entry, push_req_entry, push_zone_head};
+pub use numbers::{push_number, push_thousandths};
+pub use tail::{push_image, push_tail};
