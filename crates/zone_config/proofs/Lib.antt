@@ -1,4 +1,6 @@
-mod Walks
 mod Steps
-mod Fits
+mod Keeps
+mod Declaring
+mod Behind
+mod Bounded
 mod Answered

@@ -4,39 +4,22 @@ use Rattle.std.specs.Prelude.{◌||◌}
 use Rattle.std.specs.Option.{option_to_list}
 use Rattle.std.specs.List.{cons_option, filter_map}
 use Rattle.directive_text.specs.declared.tree.Directive.{Directive}
-use Rattle.zone_config.specs.declared.kind.Kind.{Kind}
-use Rattle.zone_config.specs.declared.kind.Kind.TheVariants.{Server}
+use Rattle.config_rules.specs.declared.kind.Kind.{Kind}
+use Rattle.config_rules.specs.declared.kind.Kind.TheVariants.{Server}
 use Rattle.zone_config.specs.declared.data.ZoneSpec.{ZoneSpec}
 use Rattle.zone_config.specs.declared.data.Level.{Level}
 use Rattle.zone_config.specs.declared.data.Upstream.{Upstream}
-use Rattle.zone_config.specs.declared.earlier.Earlier.{Earlier}
-use Rattle.zone_config.specs.declared.earlier.ZoneNames.{ZoneNames}
-use Rattle.zone_config.specs.Places.{Place, kind_at}
-use Rattle.zone_config.specs.Rules.{Fault, fault_at, first_fault, is_server, noted, nothing, or_fault, without_server}
+use Rattle.config_rules.specs.declared.earlier.Earlier.{Earlier}
+use Rattle.config_rules.specs.declared.earlier.ZoneNames.{ZoneNames}
+use Rattle.config_rules.specs.Places.{Place, kind_at}
+use Rattle.config_rules.specs.Rules.{Fault, fault_at, first_fault, is_server, noted, nothing, or_fault, without_server}
 use Rattle.std.proofs.lemmas.List.{take_more}
 use Rattle.zone_config.specs.Configuration.{Delay, delay_behind, delay_with, level_of, server_among, server_at, server_if}
 
-more_option : {X : Type 0} (o : Option X) (xs ys : List X) → xs ++ cons_option o ys ≡ (xs ++ option_to_list o) ++ ys
-more_option None xs ys = ap (λ zs. zs ++ ys) (sym (append-nil xs))
-more_option (Some x) xs ys = sym (append_assoc xs (x ∷ []) ys)
-
--- what one more place gives
-pub more_given : {X : Type 0} (h : Place → Option X) (xs : List X) (p : Place) (ps : List Place) → xs ++ filter_map h (p ∷ ps) ≡ (xs ++ option_to_list (h p)) ++ filter_map h ps
-more_given h xs p ps = more_option (h p) xs (filter_map h ps)
-
 -- a fault is not passed over
-no_fault : (fault rest : Option Fault) → or_fault fault rest ≡ None → (fault ≡ None) × (rest ≡ None)
+pub no_fault : (fault rest : Option Fault) → or_fault fault rest ≡ None → (fault ≡ None) × (rest ≡ None)
 no_fault None rest e = (refl, e)
 no_fault (Some f) rest e = absurd (cc)
-
--- a first fault is none only where nothing behind it is one
-pub next_fault : (fault rest : Option Fault) → fault ≡ None → or_fault fault rest ≡ rest
-next_fault None rest e = refl
-next_fault (Some f) rest e = absurd (cc)
-
-pub this_fault : (fault rest : Option Fault) (f : Fault) → fault ≡ Some f → or_fault fault rest ≡ Some f
-this_fault None rest f e = absurd (cc)
-this_fault (Some g) rest f e = e
 
 not_server : (k : Kind) (level : Level) (d : Directive) → server_if k level ≡ None → is_server k d ≡ false
 not_server Server level d e = absurd (cc)
@@ -83,23 +66,3 @@ delay_more d ws i w below is =
     ap (delay_behind d) (take_more ws i w below)
     ∙ delay_behind-push d (take i ws) (get_or ws i w)
     ∙ ap (delay_with (delay_behind d (take i ws))) (sym is)
-
-one_option : {Y : Type 0} (o : Option Y) → cons_option o [] ≡ option_to_list o
-one_option None = refl
-one_option (Some y) = refl
-
-option_ahead : {Y : Type 0} (o : Option Y) (xs ys : List Y) → cons_option o (xs ++ ys) ≡ cons_option o xs ++ ys
-option_ahead None xs ys = refl
-option_ahead (Some y) xs ys = refl
-
--- one item more
-filter_map-push : {X Y : Type 0} (h : X → Option Y) (xs : List X) (x : X) → filter_map h (xs ++ x ∷ []) ≡ filter_map h xs ++ option_to_list (h x)
-filter_map-push h [] x = one_option (h x)
-filter_map-push h (y ∷ xs) x = ap (cons_option (h y)) (filter_map-push h xs x) ∙ option_ahead (h y) (filter_map h xs) (option_to_list (h x))
-
-pub filter_map_more : {X Y : Type 0} (h : X → Option Y) (xs : List X) (i : ℕ) (x : X) → i < length xs → x ≡ get_or xs i x →
-    filter_map h (take (i + 1) xs) ≡ filter_map h (take i xs) ++ option_to_list (h x)
-filter_map_more h xs i x below is =
-    ap (filter_map h) (take_more xs i x below)
-    ∙ filter_map-push h (take i xs) (get_or xs i x)
-    ∙ ap (λ y. filter_map h (take i xs) ++ option_to_list (h y)) (sym is)

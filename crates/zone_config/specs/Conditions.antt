@@ -38,11 +38,17 @@ pub record HasServers (p : PeerData) : Type 0 where
   pub primary_servers : All IsServer p.primary
   pub backup_servers : All IsServer p.backup
 
--- a zone in its limits
+-- a zone in its limits, but for an upstream's servers
 abbrev pub IsZoneSpec : ZoneSpec → Type 0
 IsZoneSpec (Req spec key) = IsZone spec.name spec.bytes spec.page_shift × IsWithin 1 1000000000 spec.rate × IsExpr key.parts
 IsZoneSpec (Conn spec key) = IsZone spec.name spec.bytes spec.page_shift × IsExpr key.parts
-IsZoneSpec (Peer spec line) = IsZone spec.name spec.bytes spec.page_shift × HasServers spec
+IsZoneSpec (Peer spec line) = IsZone spec.name spec.bytes spec.page_shift
+
+-- a zone with its servers, if it is an upstream's
+abbrev pub HasOwnServers : ZoneSpec → Type 0
+HasOwnServers (Req spec key) = Unit {0}
+HasOwnServers (Conn spec key) = Unit {0}
+HasOwnServers (Peer spec line) = HasServers spec
 
 -- the bytes of a zone
 abbrev pub zone_bytes : ZoneSpec → ℕ
@@ -99,14 +105,23 @@ pub record IsUpstream (zones : List ZoneSpec) (u : Upstream) : Type 0 where
   pub primary : IsWithin 1 64 u.primary
   pub backup : u.backup ≤ 64
 
+-- At most 16 zones, each in its limits, that together have at most 268,435,456 bytes, and no name twice.
+pub record AreZones (zones : List ZoneSpec) : Type 0 where
+  pub count : length zones ≤ 16
+  pub each : All IsZoneSpec zones
+  pub all_bytes : sum_by zone_bytes zones ≤ 268435456
+  pub names : AllPairs (λ a b. zone_name a ≢ zone_name b) zones
+
+-- At most 64 locations, and no name twice.
+pub record AreLocations (locations : List Level) : Type 0 where
+  pub count : length locations ≤ 64
+  pub names : AllPairs (λ (a b : Level). a.name ≢ b.name) locations
+
 -- a configuration: what each call that takes one may rest on
 pub record IsConfig (c : Config) : Type 0 where
-  pub zone_count : length c.zones ≤ 16
-  pub zones : All IsZoneSpec c.zones
-  pub all_bytes : sum_by zone_bytes c.zones ≤ 268435456
-  pub zone_names : AllPairs (λ a b. zone_name a ≢ zone_name b) c.zones
+  pub zones : AreZones c.zones
+  pub servers : All HasOwnServers c.zones
   pub upstreams : All (IsUpstream c.zones) c.upstreams
   pub server : IsLevel c.zones c.server
-  pub location_count : length c.locations ≤ 64
-  pub locations : All (IsLevel c.zones) c.locations
-  pub location_names : AllPairs (λ (a b : Level). a.name ≢ b.name) c.locations
+  pub locations : AreLocations c.locations
+  pub levels : All (IsLevel c.zones) c.locations

@@ -4,8 +4,8 @@ use Rattle.std.specs.Option.{option_map, option_and_then}
 use Rattle.std.specs.List.{filter, filter_map, find, position, list_any, count_by}
 use Rattle.zone_key.specs.Expr.{is_same, expr_of}
 use Rattle.directive_text.specs.declared.tree.Directive.{Directive}
-use Rattle.zone_config.specs.declared.kind.Kind.{Kind}
-use Rattle.zone_config.specs.declared.kind.Kind.TheVariants.{Unnamed, Server, Upstream, Location, ReqZone, ConnZone, PeerZone}
+use Rattle.config_rules.specs.declared.kind.Kind.{Kind}
+use Rattle.config_rules.specs.declared.kind.Kind.TheVariants.{Unnamed, Server, Upstream, Location, ReqZone, ConnZone, PeerZone}
 use Rattle.zone_config.specs.declared.data.ZoneSpec.{ZoneSpec}
 use Rattle.zone_config.specs.declared.data.ZoneSpec.TheVariants.{Req, Conn, Peer}
 use Rattle.zone_config.specs.declared.data.ServerData.{ServerData}
@@ -16,18 +16,18 @@ use Rattle.zone_config.specs.declared.data.ConnLimit.{ConnLimit}
 use Rattle.zone_config.specs.declared.data.Level.{Level}
 use Rattle.zone_config.specs.declared.data.Upstream.{Upstream as UpstreamData}
 use Rattle.zone_config.specs.declared.data.Config.{Config}
-use Rattle.zone_config.specs.Words.{first_of, behind_first, arguments_of, line_of, inner_of, is_called, has_called, value_of, parameter, declared_by, Declared, is_same_name, host_of}
-use Rattle.zone_config.specs.Numbers.{digits_of, rate_of, time_of}
-use Rattle.zone_config.specs.Places.{Place, Sources, inherited, kind_at}
-use Rattle.zone_config.specs.Rules.{is_backup, is_primary, location_name, bytes_or_none}
+use Rattle.config_rules.specs.Words.{first_of, behind_first, arguments_of, line_of, inner_of, is_called, has_called, value_of, parameter, declared_by, Declared, is_same_name, host_of}
+use Rattle.config_rules.specs.Numbers.{digits_of, rate_of, time_of}
+use Rattle.config_rules.specs.Places.{Place, Sources, inherited, kind_at}
+use Rattle.config_rules.specs.Rules.{is_backup, is_primary, location_name, bytes_or_none}
 
 -- a number of at most 2^30, and 0 where there is none
-abbrev pub number_of : List ℕ → ℕ
-number_of w = unwrap_or (digits_of 1073741823 w) 0
+abbrev pub value_of_number : List ℕ → ℕ
+value_of_number w = unwrap_or (digits_of 1073741823 w) 0
 
 -- the number behind a prefix, or one that holds where it isn't given
 abbrev pub number_or : List ℕ → ℕ → List (List ℕ) → ℕ
-number_or prefix default words = unwrap_or (option_map number_of (parameter prefix words)) default
+number_or prefix default words = unwrap_or (option_map value_of_number (parameter prefix words)) default
 
 -- the name and the size of the zone that a directive of http declares
 abbrev pub declared_or_none : List (List ℕ) → Declared
@@ -156,7 +156,7 @@ pub record Delay : Type 0 where
 abbrev pub delay_with : Delay → List ℕ → Delay
 delay_with d w =
     if is_same w (codes "nodelay") then record { never = true; delay = 0 }
-    else elim (value_of (codes "delay=") w) [ Some v ↦ record { never = false; delay = number_of v } | None ↦ d ]
+    else elim (value_of (codes "delay=") w) [ Some v ↦ record { never = false; delay = value_of_number v } | None ↦ d ]
 
 -- each word that speaks of delays holds until a later one
 abbrev pub delay_behind : Delay → List (List ℕ) → Delay
@@ -180,12 +180,12 @@ req_limit zones d = record {
 abbrev pub conn_limit : List ZoneSpec → Directive → ConnLimit
 conn_limit zones d = record {
   zone = unwrap_or (zone_number zones (first_of (arguments_of d))) 0;
-  limit = number_of (first_of (behind_first (arguments_of d)));
+  limit = value_of_number (first_of (behind_first (arguments_of d)));
 }
 
 -- a status: that of the directive of this name, or 503
 abbrev pub status_of : List ℕ → List Directive → ℕ
-status_of name source = unwrap_or (option_map (λ words. number_of (first_of words)) (arguments_called name source)) 503
+status_of name source = unwrap_or (option_map (λ words. value_of_number (first_of words)) (arguments_called name source)) 503
 
 -- a switch: on where the directive of this name says so
 abbrev pub switch_of : List ℕ → List Directive → Bool

@@ -1,17 +1,12 @@
 -- What the reader of a configuration answers.
-use Rattle.std.specs.Prelude.{◌≡◌, List, Option, None, Some}
+use Rattle.std.specs.Prelude.{◌≡◌, List, None}
 use Rattle.directive_text.specs.declared.tree.Directive.{Directive}
 use Rattle.zone_config.specs.declared.data.Config.{Config}
-use Rattle.zone_config.specs.declared.fault.ConfigFault.{ConfigFault}
-use Rattle.zone_config.specs.declared.fault.ConfigFault.TheVariants.{At, NoMemory}
-use Rattle.zone_config.specs.Places.{Place, places_of}
-use Rattle.zone_config.specs.Rules.{Fault, fault_of}
+use Rattle.config_rules.specs.declared.fault.ConfigFault.{ConfigFault}
+use Rattle.config_rules.specs.declared.fault.ConfigFault.TheVariants.{At, NoMemory}
+use Rattle.config_rules.specs.Places.{Place, places_of}
+use Rattle.config_rules.specs.Rules.{fault_of}
 use Rattle.zone_config.specs.Configuration.{Configures, server_among, upstreams_of, zones_of}
-
--- a fault is this one; want of memory says nothing
-abbrev pub FaultIs : ConfigFault → Option Fault → Type 0
-FaultIs (At line rule) fault = fault ≡ Some (record { line = line; rule = rule })
-FaultIs NoMemory fault = Unit {0}
 
 -- places without a server give no configuration
 abbrev pub IsWithoutServer : ConfigFault → List Place → Type 0
@@ -22,7 +17,3 @@ IsWithoutServer NoMemory places = Unit {0}
 pub record GivesConfig (directives : List Directive) (config : Config) : Type 0 where
   pub sound : fault_of directives ≡ None
   pub configures : Configures (places_of directives) config
-
--- a fault is the first one
-abbrev pub ReadsFault : List Directive → ConfigFault → Type 0
-ReadsFault directives fault = FaultIs fault (fault_of directives)

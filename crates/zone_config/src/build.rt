@@ -2,23 +2,24 @@ ghost use Rattle.std.specs.Prelude.{◌≡◌, ◌≤◌, [], IfOk, codes, lengt
 ghost use Rattle.std.specs.Option.{option_and_then, option_copied};
 ghost use Rattle.std.specs.List.{filter, find, list_any, position, prefix_len};
 ghost use Rattle.zone_key.specs.Expr.{expr_of};
-ghost use Rattle.zone_config.specs.Words.{behind_first, behind_scheme, first_of, host_of, is_called, is_host_byte, parameter};
-ghost use Rattle.zone_config.specs.Numbers.{rate_of, time_of, zone_size};
-ghost use Rattle.zone_config.specs.Rules.{is_primary};
-ghost use Rattle.zone_config.specs.Configuration.{arguments_called, conn_limit, conn_zone, declared_or_none, delay_of, delay_with, in_32_bits, is_backup_server, is_down_word, is_upstream_called, is_zone_called, level_from, level_of, method_of, number_of, number_or, own_zone, peer_zone, peers_named, peers_of, req_limit, req_zone, server_of, status_of, switch_of, upstream_of, zone_name, zone_number};
-ghost use Rattle.zone_config.specs.Views.{declared_now, delay_now, place_now, sources_now};
+ghost use Rattle.config_rules.specs.Words.{behind_scheme, first_of, host_of, is_called, is_host_byte, parameter};
+ghost use Rattle.config_rules.specs.Numbers.{rate_of, time_of, zone_size};
+ghost use Rattle.config_rules.specs.Rules.{is_primary};
+ghost use Rattle.zone_config.specs.Configuration.{arguments_called, conn_limit, conn_zone, declared_or_none, delay_of, delay_with, in_32_bits, is_backup_server, is_down_word, is_upstream_called, is_zone_called, level_from, level_of, method_of, value_of_number, number_or, own_zone, peer_zone, peers_named, peers_of, req_limit, req_zone, server_of, status_of, switch_of, upstream_of, zone_name, zone_number};
+ghost use Rattle.config_rules.specs.Views.{declared_now, place_now, sources_now};
+ghost use Rattle.zone_config.specs.Views.{delay_now};
 
 use crate::data::{
     ConnData, ConnLimit, Level, MethodData, PeerData, ReqData, ReqLimit, ServerData, Upstream,
     ZoneSpec,
 };
-use crate::numbers::{digits_of, rate_of, time_of, zone_size};
-use crate::place::{Origins, Spot, inherited};
-use crate::rules::{is_backup, is_primary, location_name};
-use crate::words::{
+use config_rules::numbers::{digits_of, rate_of, time_of, zone_size};
+use config_rules::place::inherited;
+use config_rules::words::{
     Declaration, arguments_of, behind_first, declared_by, first_of, has_called, inner_of,
     is_called, is_same_name, parameter, value_of,
 };
+use config_rules::{Origins, Spot, is_backup, is_primary, location_name};
 use directive_text::Directive;
 use sqlite_items::Items;
 use std::alloc::Global;
@@ -40,8 +41,8 @@ fn in_32_bits(count: usize) -> u32
 }
 
 /// A number, and 0 where there is none.
-fn number_of(word: &[u8]) -> u64
-    ensures value { result ≡ number_of word.now }
+fn value_of_number(word: &[u8]) -> u64
+    ensures value { result ≡ value_of_number word.now }
     ensures within { result ≤ 1073741823 }
 {
     match digits_of(1_073_741_823, word) {
@@ -56,7 +57,7 @@ fn number_or(prefix: &[u8], default: u64, words: &[Text]) -> u64
     ensures within { default ≤ 1073741823 → result ≤ 1073741823 }
 {
     match parameter(prefix, words) {
-        Some(value) => number_of(value),
+        Some(value) => value_of_number(value),
         None => default,
     }
 }
@@ -376,7 +377,7 @@ fn delay_with(delay: DelayWord, word: &[u8]) -> DelayWord
     match value_of(b"delay=", word) {
         Some(value) => DelayWord {
             never: false,
-            delay: number_of(value),
+            delay: value_of_number(value),
         },
         None => delay,
     }
@@ -435,7 +436,7 @@ fn conn_limit(zones: &[ZoneSpec], directive: &Directive) -> ConnLimit
     };
     ConnLimit {
         zone,
-        limit: number_of(first_of(behind_first(words))),
+        limit: value_of_number(first_of(behind_first(words))),
     }
 }
 
@@ -478,7 +479,7 @@ fn status_of(name: &[u8], source: &[Directive]) -> u32
     ensures { result ≡ status_of name.now source.now }
 {
     match arguments_called(name, source) {
-        Some(words) => number_of(first_of(words)) as u32,
+        Some(words) => value_of_number(first_of(words)) as u32,
         None => 503,
     }
 }

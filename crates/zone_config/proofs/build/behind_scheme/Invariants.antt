@@ -1,5 +1,5 @@
 use Rattle.std.proofs.Common.{◌≡◌, length}
-use Rattle.zone_config.specs.Words.{behind_scheme}
+use Rattle.config_rules.specs.Words.{behind_scheme}
 use Rattle.zone_config.proofs.build.behind_scheme.Given as goal
 
 abbrev pub invariant-bytes : goal.invariant-bytes

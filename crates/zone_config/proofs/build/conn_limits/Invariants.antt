@@ -1,6 +1,6 @@
 use Rattle.std.proofs.Common.{◌≡◌, codes, map, take}
 use Rattle.std.specs.List.{filter}
-use Rattle.zone_config.specs.Words.{is_called}
+use Rattle.config_rules.specs.Words.{is_called}
 use Rattle.zone_config.specs.Configuration.{conn_limit}
 use Rattle.zone_config.proofs.build.conn_limits.Given as goal
 

@@ -1,7 +1,7 @@
 use Rattle.std.proofs.Common.{◌≡◌, map, take}
 use Rattle.std.specs.List.{filter}
 use Rattle.zone_config.specs.Configuration.{server_of}
-use Rattle.zone_config.specs.Rules.{is_primary}
+use Rattle.config_rules.specs.Rules.{is_primary}
 use Rattle.zone_config.proofs.build.primary_servers.Given as goal
 
 abbrev pub invariant-loop-directive : goal.invariant-loop-directive

@@ -1,0 +1,3 @@
+mod Walks
+mod Steps
+pub mod Fits

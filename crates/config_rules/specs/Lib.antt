@@ -1,0 +1,9 @@
+pub mod Words
+pub mod Numbers
+pub mod Kinds
+pub mod Arguments
+pub mod Places
+pub mod Rules
+pub mod Answers
+pub mod Views
+pub mod Walking

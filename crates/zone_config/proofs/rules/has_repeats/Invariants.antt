@@ -1,9 +1,0 @@
-use Rattle.std.proofs.Common.{◌≡◌, length}
-use Rattle.zone_config.specs.Rules.{has_repeats}
-use Rattle.zone_config.proofs.rules.has_repeats.Given as goal
-
-abbrev pub invariant-words : goal.invariant-words
-invariant-words l = has_repeats l.rest ≡ has_repeats l.words
-
-abbrev pub decreases-words : goal.decreases-words
-decreases-words l = length l.rest

@@ -1,7 +1,0 @@
-use Rattle.std.proofs.Common.{◌≡◌, ◌++◌, take}
-use Rattle.std.specs.List.{flat_map}
-use Rattle.zone_config.specs.Rules.{behind_space}
-use Rattle.zone_config.proofs.rules.location_name.Given as goal
-
-abbrev pub invariant-loop-word : goal.invariant-loop-word
-invariant-loop-word l = l.name.items ≡ l.initial.name.items ++ flat_map behind_space (take l.word-index l.later)
