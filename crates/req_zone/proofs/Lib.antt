@@ -3,3 +3,7 @@ pub mod FrontLemmas
 pub mod GeometryLemmas
 pub mod MissingLemmas
 pub mod FoundLemmas
+pub mod ByteLemmas
+pub mod NodeLemmas
+pub mod ZoneLemmas
+pub mod AdmitLemmas
