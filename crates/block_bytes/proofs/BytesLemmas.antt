@@ -1,7 +1,7 @@
 -- Held bytes after other words changed, and read back one at a time.
-use Rattle.std.proofs.Common.{ℕ, ◌≡◌, ◌≢◌, ◌⊎◌, ◌+◌, ◌*◌, ◌/◌, ◌%◌, ◌^◌, ◌<◌, ◌≤◌, ◌∙◌, sym, subst, ap, refl, inl, inr, List, length, arith}
-use Rattle.zone_region.specs.Words.{Words, word_at, SetsWord}
-use Rattle.block_bytes.specs.Bytes.{HoldsBytes, PutsBytes}
+use Rattle.std.proofs.Common.{ℕ, ◌≡◌, ◌+◌, ◌/◌, ◌<◌, ◌≤◌, ◌∙◌, ap, List, length, get_or, arith}
+use Rattle.zone_region.specs.Words.{Words, word_at}
+use Rattle.block_bytes.specs.Bytes.{HoldsBytes}
 
 -- the bytes are held where their words are the same
 pub holds_bytes-kept : (m n : Words) (at first : ℕ) (bytes : List ℕ) → ((i : ℕ) → first ≤ i → i < first + (length bytes + 7) / 8 → word_at n at i ≡ word_at m at i) → HoldsBytes m at first bytes → HoldsBytes n at first bytes

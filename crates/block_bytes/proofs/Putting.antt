@@ -1,5 +1,5 @@
 -- The first so many words of some bytes are put into a block.
-use Rattle.std.proofs.Common.{ℕ, ◌≡◌, ◌≢◌, ◌⊎◌, ◌+◌, ◌/◌, ◌<◌, ◌≤◌, ◌∙◌, sym, subst, ap, refl, inl, inr, List, length, arith}
+use Rattle.std.proofs.Common.{ℕ, ◌≡◌, ◌≢◌, ◌⊎◌, ◌+◌, ◌/◌, ◌<◌, ◌≤◌, ◌∙◌, sym, subst, refl, inl, inr, List, length, arith}
 use Rattle.std.proofs.lemmas.Bool.{cases_eq}
 use Rattle.zone_key.specs.Word.{key_word}
 use Rattle.zone_region.specs.Words.{Words, word_at, SetsWord}

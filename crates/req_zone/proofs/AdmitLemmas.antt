@@ -51,21 +51,21 @@ own_key m hash key e x h is at = ap (λ (r : Rank). r.1) (sym is ∙ (ap (λ (b 
 -- no node has the hash and the key where the key has no entry
 pub no_rank : (m : Words) (hash : ℕ) (key : List ℕ) (es : List ReqEntry) → All (HoldsEntry m) es → entry_of key es ≡ None → (x : ℕ) → In x (blocks_in es) → rank_at m x ≢ (hash, key)
 no_rank m hash key [] all none x i is = absurd i
-no_rank m hash key (e ∷ es) all none x i is = go (has_key key e) refl none i where
-  go : (b : Bool) → has_key key e ≡ b → cond b (Some e) (entry_of key es) ≡ None → (x ≡ e.block) ⊎ In x (blocks_in es) → ⊥
-  go true h n j = absurd (cc)
-  go false h n (inl at) = let own = has_own key e (own_key m hash key e x (All-head (HoldsEntry m) e es all) is at) in absurd (cc)
-  go false h n (inr j) = no_rank m hash key es (All-tail (HoldsEntry m) e es all) n x j is
+no_rank m hash key (e ∷ es) all none x i is = go (has_key key e) refl none i (λ n j. no_rank m hash key es (All-tail (HoldsEntry m) e es all) n x j is) where
+  go : (b : Bool) → has_key key e ≡ b → cond b (Some e) (entry_of key es) ≡ None → (x ≡ e.block) ⊎ In x (blocks_in es) → (entry_of key es ≡ None → In x (blocks_in es) → ⊥) → ⊥
+  go true h n j rest = absurd (cc)
+  go false h n (inl at) rest = let own = has_own key e (own_key m hash key e x (All-head (HoldsEntry m) e es all) is at) in absurd (cc)
+  go false h n (inr j) rest = rest n j
 
 -- the key has no entry where no node has its hash and it
 pub none_found : (m : Words) (key : List ℕ) (es : List ReqEntry) → All (HoldsEntry m) es → ((x : ℕ) → In x (blocks_in es) → rank_at m x ≢ (crc32_of key, key)) → entry_of key es ≡ None
 none_found m key [] all none = refl
-none_found m key (e ∷ es) all none = go (has_key key e) refl where
-  go : (b : Bool) → has_key key e ≡ b → cond b (Some e) (entry_of key es) ≡ None
-  go true h =
+none_found m key (e ∷ es) all none = go (has_key key e) refl (none_found m key es (All-tail (HoldsEntry m) e es all) (λ x i. none x (inr i))) where
+  go : (b : Bool) → has_key key e ≡ b → entry_of key es ≡ None → cond b (Some e) (entry_of key es) ≡ None
+  go true h rest =
       let same : key ≡ e.key = (bytes_eq-Decides key e.key).0 h in
       absurd (none e.block (inl refl) (entry_rank m e (All-head (HoldsEntry m) e es all) ∙ ap (λ (k : List ℕ). let p : Rank = (crc32_of k, k) in p) (sym same)))
-  go false h = none_found m key es (All-tail (HoldsEntry m) e es all) (λ x i. none x (inr i))
+  go false h rest = rest
 
 -- a node with the key is that of an entry
 counted : (m : Words) (hash : ℕ) (key : List ℕ) (es : List ReqEntry) → All (HoldsEntry m) es → (x : ℕ) → In x (blocks_in es) → rank_at m x ≡ (hash, key) → 0 < entries_of key es
@@ -78,15 +78,15 @@ counted m hash key (e ∷ es) all x (inr i) is = omega (arith, counted m hash ke
 -- and of the one that is found, since no key has two
 pub one_found : (m : Words) (hash : ℕ) (key : List ℕ) (es : List ReqEntry) → All (HoldsEntry m) es → entries_of key es ≤ 1 → (x : ℕ) → In x (blocks_in es) → rank_at m x ≡ (hash, key) → (e : ReqEntry) × (entry_of key es ≡ Some e) × (e.block ≡ x)
 one_found m hash key [] all once x i is = absurd i
-one_found m hash key (e ∷ es) all once x i is = go (has_key key e) refl i where
-  go : (b : Bool) → has_key key e ≡ b → (x ≡ e.block) ⊎ In x (blocks_in es) → (f : ReqEntry) × (cond (has_key key e) (Some e) (entry_of key es) ≡ Some f) × (f.block ≡ x)
-  go true h (inl at) = (e, ap (λ (b : Bool). cond b (Some e) (entry_of key es)) h, sym at)
-  go true h (inr j) =
+one_found m hash key (e ∷ es) all once x i is = go (has_key key e) refl i (λ few j. one_found m hash key es (All-tail (HoldsEntry m) e es all) few x j is) where
+  go : (b : Bool) → has_key key e ≡ b → (x ≡ e.block) ⊎ In x (blocks_in es) → (entries_of key es ≤ 1 → In x (blocks_in es) → (f : ReqEntry) × (entry_of key es ≡ Some f) × (f.block ≡ x)) → (f : ReqEntry) × (cond (has_key key e) (Some e) (entry_of key es) ≡ Some f) × (f.block ≡ x)
+  go true h (inl at) rest = (e, ap (λ (b : Bool). cond b (Some e) (entry_of key es)) h, sym at)
+  go true h (inr j) rest =
       let one : cond (has_key key e) 1 0 ≡ 1 = ap {B = ℕ} (λ (b : Bool). cond b 1 0) h in
       absurd (omega (arith, one, once, keys_more key e es, counted m hash key es (All-tail (HoldsEntry m) e es all) x j is))
-  go false h (inl at) = let own = has_own key e (own_key m hash key e x (All-head (HoldsEntry m) e es all) is at) in absurd (cc)
-  go false h (inr j) =
-      let r = one_found m hash key es (All-tail (HoldsEntry m) e es all) (omega (arith, once, keys_more key e es)) x j is in
+  go false h (inl at) rest = let own = has_own key e (own_key m hash key e x (All-head (HoldsEntry m) e es all) is at) in absurd (cc)
+  go false h (inr j) rest =
+      let r = rest (omega (arith, once, keys_more key e es)) j in
       (r.0, ap (λ (b : Bool). cond b (Some e) (entry_of key es)) h ∙ r.1, r.2)
 
 pub found : (image : Image) (s : ReqState) (hash : ℕ) (key : List ℕ) (x : ℕ) → LaysReq image s → In x (blocks_in s.table) → rank_at (block_words image) x ≡ (hash, key) → (e : ReqEntry) × IsFound s key x e

@@ -7,3 +7,5 @@ pub mod ByteLemmas
 pub mod NodeLemmas
 pub mod ZoneLemmas
 pub mod AdmitLemmas
+pub mod StepLemmas
+pub mod OpenLemmas

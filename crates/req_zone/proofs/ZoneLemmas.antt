@@ -223,7 +223,7 @@ left old mid new s t at newer e l t_is h step =
     let c : ChangesTable (block_words old) (block_words mid) (table_in s) (blocks_in s.table) = subst (λ (u : Table). ChangesTable (block_words old) (block_words mid) u (blocks_in s.table)) t_is (step.changes (blocks_in s.table) was here) in
     let none : blocks_in newer ++ [] ≡ blocks_in newer = append-nil (blocks_in newer) in
     let now : IsTable (block_words mid) (table_in s) (blocks_in newer) = subst (λ (xs : List ℕ). IsTable (block_words mid) (table_in s) xs) none
-        (subst (λ (u : Table). IsTable (block_words mid) u (blocks_in newer ++ [])) t_is (step.removed (blocks_in newer) [] (subst (λ (xs : List ℕ). IsTable (block_words old) t xs) order was))) in
+    (subst (λ (u : Table). IsTable (block_words mid) u (blocks_in newer ++ [])) t_is (step.removed (blocks_in newer) [] (subst (λ (xs : List ℕ). IsTable (block_words old) t xs) order was))) in
     let out = IsDistinct-split (blocks_in newer) at [] (subst (λ (xs : List ℕ). IsDistinct xs) order a.nodes) in
     let gone : In at (blocks_in newer) → ⊥ = λ i. out.1 (subst (λ (xs : List ℕ). In at xs) (sym none) i) in
     let away : s.context ≢ at = λ q. a.context (subst (λ (z : ℕ). In z (blocks_in s.table)) (sym q) here) in

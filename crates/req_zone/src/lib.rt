@@ -19,10 +19,10 @@ mod words;
 
 pub use calls::{ReqCall, ReqReply, ReqSpec};
 pub use errors::OpenFault;
-pub use rules::{Allowed, amount, delay};
-pub use state::{ReqEntry, ReqState};
 pub use object::ReqZone;
 pub use placed::PlacedZone;
+pub use rules::{Allowed, amount, delay};
+pub use state::{ReqEntry, ReqState};
 
 #[cfg(test)]
 mod tests;

@@ -11,10 +11,15 @@ use zone_region::{Block, Blocks};
 /// The words of a node: the hash, the key's length above 16 bits, the moment, the excess, the count, and the first of
 /// the key's bytes.
 const HASH: u64 = 0;
+
 const SIZE: u64 = 4;
+
 pub(crate) const LAST: u64 = 7;
+
 pub(crate) const EXCESS: u64 = 8;
+
 pub(crate) const COUNT: u64 = 9;
+
 const KEY: u64 = 10;
 
 /// The factor by which a key's length stands above the colour.

@@ -1,4 +1,4 @@
-ghost use Rattle.std.specs.Prelude.{◌≡◌, ◌+◌, ◌/◌, ◌<◌, ◌≤◌, ℕ, List, length, replicate, IfOk, Some};
+ghost use Rattle.std.specs.Prelude.{◌≡◌, ◌*◌, ◌/◌, ◌<◌, ◌≤◌, ℕ, List, length, replicate, IfOk, Some};
 ghost use Rattle.zone_region.specs.Granting.{GrantsWords};
 ghost use Rattle.slab_model.specs.Geometry.{IsInLimits, shape_of, greatest_zone};
 ghost use Rattle.slab_model.specs.State.{Slab, fresh_slab};
@@ -44,6 +44,7 @@ fn take_block(pool: &mut Pool, size: u64) -> Block
         GrantsWords (block_words pool.old) (block_words pool.new) result.at (block_bytes slab size / 8) }
     ensures zeros { (slab : Slab) → LaysPool pool.old slab →
         block_words pool.new result.at ≡ replicate (block_bytes slab size / 8) 0 }
+    ensures room { size ≤ 8 * length (block_words pool.new result.at) }
 {
     match pool.calloc(size) {
         Some(block) => block,

@@ -1,5 +1,5 @@
 use crate::ReqReply::{Busy, Pass};
-use crate::{Allowed, OpenFault, ReqReply, ReqSpec, PlacedZone, amount, delay};
+use crate::{Allowed, OpenFault, PlacedZone, ReqReply, ReqSpec, amount, delay};
 use std::alloc::Global;
 use std::process::Abort;
 use std::test::Fail;

@@ -141,7 +141,13 @@ impl ReqWords {
             steps.new ≤ steps.old + (3 * search_cost (length s.table) (length key.now) + 24) }
     {
         let b = self.pool.alloc(NODE_SIZE + key.len())?;
-        write_node(&mut self.pool, b, hash, key.bytes(), Numbers::fresh(now, last));
+        write_node(
+            &mut self.pool,
+            b,
+            hash,
+            key.bytes(),
+            Numbers::fresh(now, last),
+        );
         self.table.add(&mut self.pool, b, key, steps);
         self.entries += 1;
         Some(b)
