@@ -9,6 +9,7 @@ use Rattle.zone_region.specs.Granting.{GrantsWords, SameBlockWords}
 use Rattle.block_bytes.specs.Bytes.{HoldsBytes, PutsBytes}
 use Rattle.block_bytes.proofs.BytesLemmas.{holds_bytes-same}
 use Rattle.slab_model.specs.Geometry.{IsInLimits, shape_of, class_of, class_size}
+use Rattle.slab_model.specs.declared.shape.Shape.{Shape}
 use Rattle.slab_model.specs.State.{Slab, fresh_slab}
 use Rattle.slab_model.specs.Grant.{block_bytes}
 use Rattle.slab_pages.specs.Places.{Image, log_ctx_word, data_word}
@@ -97,3 +98,9 @@ begun p0 p1 p2 p3 p4 p5 rate bytes name context block count b =
       },
       table_is,
     )
+
+-- a zone is known by its bytes and the size of its pages
+pub same_shape : (shape : Shape) (bytes : ℕ) → shape.bytes ≡ bytes → shape.page_shift ≡ 12 → shape ≡ shape_of bytes
+same_shape shape bytes e f =
+    let g : ℕ → ℕ → Shape = λ m n. record { bytes = m; page_shift = n } in
+    ap (λ m. g m shape.page_shift) e ∙ ap (λ n. g bytes n) f

@@ -119,7 +119,7 @@ impl ReqWords {
     }
 
     /// Makes a newest entry of a key that has none, for the last limit of a request or for an earlier one; none, and
-    /// no entry more, exactly where the pool has no block for its node.
+    /// no entry more, exactly where the pool has no block for its node. It then takes no step.
     pub(crate) fn admit<L: Ledger>(
         &mut self,
         hash: u32,
@@ -138,7 +138,9 @@ impl ReqWords {
             (Lays self.new (asked_for s (node_size + length key.now)))
             (λ b. Lays self.new (admitted s key.now now last b.at)) }
         ensures cost { (s : ReqState) → Lays self.old s → entry_of key.now s.table ≡ None →
-            steps.new ≤ steps.old + (3 * search_cost (length s.table) (length key.now) + 24) }
+            MatchOption result
+            (steps.new ≤ steps.old)
+            (λ _. steps.new ≤ steps.old + (3 * search_cost (length s.table) (length key.now) + 24)) }
     {
         let b = self.pool.alloc(NODE_SIZE + key.len())?;
         write_node(

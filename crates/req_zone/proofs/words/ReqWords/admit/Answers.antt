@@ -66,3 +66,6 @@ returns-clause-cost g c s h none =
         (omega (arith, c.len.ensures)) c.bytes.ensures c.write_node.ensures.sets c.write_node.ensures.rest in
     let can = can_be_added c.args.self.now c.alloc.new.self c.write_node.new.blocks s (entry_with c.args.key.now at c.fresh.result) _ h came in
     subst (λ (n : ℕ). c.add.new.steps ≤ c.args.steps.now + (3 * search_cost n (length c.args.key.now) + 24)) (count_blocks s) (c.add.ensures.cost (blocks_in s.table) can)
+
+pub returns-in_err-b-clause-cost : goal.returns-in_err-b-clause-cost
+returns-in_err-b-clause-cost g c s h none = match_none c.from_residual.result _ _ c.from_residual.ensures (omega arith)
