@@ -9,3 +9,6 @@ pub mod ZoneLemmas
 pub mod AdmitLemmas
 pub mod StepLemmas
 pub mod OpenLemmas
+pub mod CheckLemmas
+pub mod ExpiryChain
+pub mod CheckSteps

@@ -151,7 +151,10 @@ impl ReqWords {
             return 0;
         };
         let numbers = self.numbers(b, steps);
-        if !(numbers.is_free() && numbers.is_stale(self.rate, now)) {
+        if !numbers.is_free() {
+            return 0;
+        }
+        if !numbers.is_stale(self.rate, now) {
             return 0;
         }
         self.remove_oldest(b);
