@@ -1,5 +1,5 @@
 -- How the words of a zone lay out the state of a request zone (`ngx_http_limit_req_shctx_t`, `ngx_http_limit_req_node_t`).
-use Rattle.std.specs.Prelude.{◌≡◌, ℕ, ◌+◌, ◌/◌, ◌^◌, ◌<◌, ◌≤◌, List, [], ◌∷◌, ◌++◌, length, map, slice_index, codes}
+use Rattle.std.specs.Prelude.{◌≡◌, ℕ, ◌+◌, ◌*◌, ◌/◌, ◌^◌, ◌<◌, ◌≤◌, List, [], ◌∷◌, ◌++◌, length, map, slice_index, codes}
 use Rattle.std.specs.List.{All}
 use Rattle.zone_region.specs.Words.{Words, word_at}
 use Rattle.zone_key.specs.Crc.{crc32_of}
@@ -35,13 +35,13 @@ pub record HasSentinel (m : Words) (context : ℕ) : Type 0 where
 abbrev pub AreBytes : List ℕ → Type 0
 AreBytes bytes = (i : ℕ) → slice_index bytes i < 256
 
--- The node of an entry: the hash in word 0, the key's length in word 4 above 16 bits, then the moment, the excess and
--- the count, and the key's bytes from word 10 on.
+-- The node of an entry: the hash in word 0, the key's length in word 4 above 16 bits of which only the lowest byte, the
+-- colour, isn't 0, then the moment, the excess and the count, and the key's bytes from word 10 on.
 pub record HoldsEntry (m : Words) (entry : ReqEntry) : Type 0 where
   pub bytes : AreBytes entry.key
   pub short : length entry.key < 2 ^ 16
   pub hash : word_at m entry.block 0 ≡ crc32_of entry.key
-  pub size : word_at m entry.block 4 / 2 ^ 16 ≡ length entry.key
+  pub size : word_at m entry.block 4 / 2 ^ 8 ≡ 2 ^ 8 * length entry.key
   pub last : word_at m entry.block 7 ≡ entry.last
   pub excess : word_at m entry.block 8 ≡ entry.excess
   pub count : word_at m entry.block 9 ≡ entry.count

@@ -26,3 +26,6 @@ pub use state::{ReqEntry, ReqState};
 
 #[cfg(test)]
 mod tests;
+
+#[cfg(test)]
+mod image_tests;
