@@ -3,3 +3,12 @@ pub mod FrontLemmas
 pub mod GeometryLemmas
 pub mod MissingLemmas
 pub mod FoundLemmas
+pub mod ByteLemmas
+pub mod NodeLemmas
+pub mod ZoneLemmas
+pub mod AdmitLemmas
+pub mod StepLemmas
+pub mod OpenLemmas
+pub mod CheckLemmas
+pub mod ExpiryChain
+pub mod CheckSteps

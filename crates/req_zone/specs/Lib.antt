@@ -14,3 +14,6 @@ pub mod Laws
 pub mod Proving
 pub mod ObjectLaws
 pub mod Rows
+pub mod Words
+pub mod Lays
+pub mod WordsLaws

@@ -1,4 +1,5 @@
 use thiserror::Error;
+use zone_outside::NoMemory;
 
 /// Why a zone can't be opened.
 #[derive(Debug, Drop, Error)]
@@ -9,4 +10,15 @@ pub enum OpenFault {
     /// There was no memory for the zone.
     #[error("no memory for the zone")]
     NoMemory,
+}
+
+impl From<NoMemory> for OpenFault {
+    ghost use Rattle.std.specs.Prelude.{◌≡◌};
+    ghost use Rattle.req_zone.specs.declared.errors.OpenFault.TheVariants.{NoMemory};
+
+    ghost from_gives = { λ _ fault. fault ≡ NoMemory };
+
+    fn from(_error: NoMemory) -> OpenFault {
+        OpenFault::NoMemory
+    }
 }

@@ -3,19 +3,29 @@
 #![tactic(auto)]
 
 mod calls;
+mod check;
 mod errors;
 mod node;
+mod nodes;
+mod numbers;
+mod object;
+mod opening;
+mod placed;
 mod rules;
 mod state;
 mod table;
 pub mod theorems;
-mod zone;
+mod words;
 
 pub use calls::{ReqCall, ReqReply, ReqSpec};
 pub use errors::OpenFault;
+pub use object::ReqZone;
+pub use placed::PlacedZone;
 pub use rules::{Allowed, amount, delay};
 pub use state::{ReqEntry, ReqState};
-pub use zone::ReqZone;
 
 #[cfg(test)]
 mod tests;
+
+#[cfg(test)]
+mod image_tests;

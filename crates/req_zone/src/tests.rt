@@ -1,5 +1,5 @@
 use crate::ReqReply::{Busy, Pass};
-use crate::{Allowed, OpenFault, ReqReply, ReqSpec, ReqZone, amount, delay};
+use crate::{Allowed, OpenFault, PlacedZone, ReqReply, ReqSpec, amount, delay};
 use std::alloc::Global;
 use std::process::Abort;
 use std::test::Fail;
@@ -12,7 +12,7 @@ fn opened(
     alloc: Global,
     rate: u64,
     bytes: u64,
-) -> Result<Result<ReqZone, OpenFault>, Fail> {
+) -> Result<Result<PlacedZone, OpenFault>, Fail> {
     let name = Text::of(alloc, b"one")?;
     assert!(rt; name.bytes().len() == 3);
     assert!(rt; rate >= 1 && rate <= 1_000_000_000 && bytes <= 67_108_864);
@@ -22,14 +22,14 @@ fn opened(
         page_shift: 12,
         rate,
     };
-    Ok(ReqZone::open(alloc, &spec))
+    Ok(PlacedZone::open(alloc, &spec))
 }
 
 /// What a check of a key answers.
 fn checked(
     rt: &impl Abort,
     alloc: Global,
-    zone: &mut ReqZone,
+    zone: &mut PlacedZone,
     key: &[u8],
     now: u64,
     burst: u64,

@@ -8,7 +8,7 @@ ghost use Rattle.zonereplay.specs.Reading.{IsInLimits};
 use crate::job::Job;
 use crate::keys::KeyLine;
 use crate::text::line_of;
-use req_zone::{OpenFault, ReqSpec, ReqZone};
+use req_zone::{OpenFault, ReqSpec, PlacedZone};
 use std::alloc::Global;
 use zone_outside::{NoMemory, Text};
 
@@ -16,7 +16,7 @@ use zone_outside::{NoMemory, Text};
 const PAGE_SHIFT: u32 = 12;
 
 /// The request zone `one` of a job, without entries.
-fn open_zone(alloc: Global, job: Job) -> Result<ReqZone, NoMemory>
+fn open_zone(alloc: Global, job: Job) -> Result<PlacedZone, NoMemory>
     ensures { IfOk result (λ zone. zone ≡ opened job.rate job.bytes) }
 {
     let spec = ReqSpec {
@@ -25,7 +25,7 @@ fn open_zone(alloc: Global, job: Job) -> Result<ReqZone, NoMemory>
         page_shift: PAGE_SHIFT,
         rate: job.rate,
     };
-    match ReqZone::open(alloc, &spec) {
+    match PlacedZone::open(alloc, &spec) {
         Ok(zone) => Ok(zone),
         Err(OpenFault::NoMemory) => Err(NoMemory),
         Err(OpenFault::TooSmall) => unreachable!(),

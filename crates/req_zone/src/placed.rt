@@ -23,13 +23,13 @@ use zone_outside::NoMemory;
 /// Contracts see its rate, its table as a list of entries, and the number of nodes that it still
 /// has room for.
 #[derive(Debug, Drop)]
-pub struct ReqZone {
+pub struct PlacedZone {
     rate: u64,
     capacity: usize,
     nodes: Vec<Node>,
 }
 
-impl Model for ReqZone {
+impl Model for PlacedZone {
     ghost use Rattle.std.specs.Prelude.{◌<◌, ◌≤◌, ◌-◌, length, vec_len};
     ghost use Rattle.req_zone.specs.Amount.{IsRate};
     ghost use Rattle.req_zone.specs.Counted.{Zone};
@@ -69,10 +69,10 @@ fn count_leaving(nodes: &[Node], capacity: usize, rate: u64, now: u64) -> usize
     stale + count_forced(&nodes[..kept], rate, now)
 }
 
-impl ReqZone {
+impl PlacedZone {
     /// Opens a zone without entries. It takes the pages of its memory as they are after
     /// `ngx_slab_init`, so `TooSmall` comes exactly where it has fewer bytes than 8 pages.
-    pub fn open(alloc: Global, spec: &ReqSpec) -> Result<ReqZone, OpenFault>
+    pub fn open(alloc: Global, spec: &ReqSpec) -> Result<PlacedZone, OpenFault>
         requires name { (0 < length spec.now.name) × (length spec.now.name < 256) }
         requires bytes { spec.now.bytes ≤ greatest_zone }
         requires page_shift { spec.now.page_shift ≡ 12 }
@@ -82,7 +82,7 @@ impl ReqZone {
         let Ok(geometry) = Geometry::of(spec.bytes, spec.page_shift) else {
             return Err(OpenFault::TooSmall);
         };
-        Ok(ReqZone {
+        Ok(PlacedZone {
             rate: spec.rate,
             capacity: capacity_in(geometry.pages),
             nodes: Vec::new(alloc),

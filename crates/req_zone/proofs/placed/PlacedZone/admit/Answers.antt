@@ -7,7 +7,7 @@ use Rattle.req_zone.specs.Leaving.{leaving_in_all}
 use Rattle.req_zone.specs.Step.{check_missing}
 use Rattle.req_zone.specs.Counted.{Zone, places}
 use Rattle.req_zone.proofs.MissingLemmas.{admitted_is}
-use Rattle.req_zone.proofs.zone.ReqZone.admit.Goals as goal
+use Rattle.req_zone.proofs.placed.PlacedZone.admit.Goals as goal
 
 pub returns-clause-admitted : goal.returns-clause-admitted
 returns-clause-admitted c =

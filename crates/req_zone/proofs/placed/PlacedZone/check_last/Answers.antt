@@ -6,7 +6,7 @@ use Rattle.req_zone.specs.declared.calls.ReqCall.TheVariants.{Check}
 use Rattle.req_zone.specs.Step.{check_found}
 use Rattle.req_zone.specs.Counted.{Zone, Answers}
 use Rattle.req_zone.proofs.FoundLemmas.{found_answers, written_over, missing_answers, if_ok, on_err, missing_at}
-use Rattle.req_zone.proofs.zone.ReqZone.check_last.Goals as goal
+use Rattle.req_zone.proofs.placed.PlacedZone.check_last.Goals as goal
 
 pub returns-in-Some-clause-checked : goal.returns-in-Some-clause-checked
 returns-in-Some-clause-checked c =

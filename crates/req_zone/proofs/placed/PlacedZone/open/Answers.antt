@@ -2,7 +2,7 @@ use Rattle.std.proofs.Common.{◌≡◌, ◌≤◌, arith}
 use Rattle.std.proofs.lemmas.Grind.{common_steps}
 use Rattle.slab_model.specs.Geometry.{shape_of, pages_of, least_zone}
 use Rattle.req_zone.proofs.GeometryLemmas.{some_pages, opened_is}
-use Rattle.req_zone.proofs.zone.ReqZone.open.Goals as goal
+use Rattle.req_zone.proofs.placed.PlacedZone.open.Goals as goal
 
 pub capacity_in-requires : goal.capacity_in-requires
 capacity_in-requires c =
