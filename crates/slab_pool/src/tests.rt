@@ -1,10 +1,14 @@
+ghost use Rattle.std.specs.Prelude.{◌≡◌, ◌<◌};
+
 use crate::{FreeFault, Pool};
 use slab_model::PlainSlab;
 use slab_pages::Geometry;
 use std::alloc::Global;
+use std::marker::Brand;
 use std::process::Abort;
+use std::sync::ledger::{Blank, Ledger};
 use std::test::Fail;
-use zone_region::Block;
+use zone_region::{Block, Blocks, Steps};
 
 fn small_pool(alloc: Global) -> Result<Pool, Fail> {
     Ok(Pool::open(alloc, Geometry::of(32_768, 12)?)?)
@@ -176,6 +180,41 @@ fn request_zone(rt: HostRuntime) -> Result<(), Fail> {
     assert_eq!(rt; pool.alloc(84), Some(Block { at: 4224 }));
     assert_eq!(rt; pool.free_pages(), 5);
     Ok(())
+}
+
+// Two blocks that the root names. Their words are read as they were written, also once the other block came back.
+fn named_blocks<L: Ledger, R: Abort>(rt: &R, heap: Global, blank: Blank) -> Result<(), Fail>
+    requires name { blank.name ≡ L.name }
+    requires parts { blank.parts ≡ L.parts }
+    requires some { 0 < L.parts }
+{
+    let mut steps = Steps::<L>::new(blank);
+    let mut pool = small_pool(heap)?;
+    let context = match pool.calloc(80) {
+        Some(block) => block,
+        None => panic!(*rt; "no context"),
+    };
+    let name = match pool.alloc(25) {
+        Some(block) => block,
+        None => panic!(*rt; "no name block"),
+    };
+    pool.set_root(context, name);
+    pool.set(context, 9, 5);
+    pool.set(name, 3, 7);
+    assert_eq!(*rt; pool.word(context, 9, &mut steps), 5);
+    assert_eq!(*rt; pool.word(name, 3, &mut steps), 7);
+    pool.free(name);
+    assert_eq!(*rt; pool.word(context, 8, &mut steps), 0);
+    assert_eq!(*rt; pool.word(context, 9, &mut steps), 5);
+    pool.free(context);
+    assert_eq!(*rt; (word(rt, &pool, 20), word(rt, &pool, 23)), (8224, 4096));
+    assert_eq!(*rt; pool.free_pages(), 7);
+    Ok(())
+}
+
+#[test]
+fn words_of_blocks(rt: HostRuntime) -> Result<(), Fail> {
+    named_blocks::<Brand, HostRuntime>(&rt, rt.alloc(), Blank::new(1))
 }
 
 fn next_draw(state: u64) -> u64 {
