@@ -8,3 +8,4 @@ pub mod Keeping
 pub mod Answering
 pub mod Stepping
 pub mod Beginning
+pub mod Permitted

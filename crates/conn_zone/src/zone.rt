@@ -1,5 +1,5 @@
 ghost use Rattle.std.specs.Prelude.{◌≡◌, ◌≤◌, MatchResult, IfOk};
-ghost use Rattle.slab_model.specs.Geometry.{greatest_zone};
+ghost use Rattle.slab_model.specs.Geometry.{shape_of, least_zone, greatest_zone};
 ghost use Rattle.conn_zone.specs.Object.{IsName, IsOpened, opened_zone};
 ghost use Rattle.conn_zone.specs.Opening.{IsFaultOf};
 ghost use Rattle.conn_zone.specs.Layout.{Lays};
@@ -52,8 +52,9 @@ impl ConnZone {
         requires name { IsName spec.name }
         requires bytes { spec.bytes ≤ greatest_zone }
         requires page_shift { spec.page_shift ≡ 12 }
-        ensures opened { MatchResult result (λ zone. Lays zone (opened_zone spec.name spec.bytes)) (IsFaultOf spec.bytes) }
+        ensures opened { IfOk result (λ zone. Lays zone (opened_zone spec.name spec.bytes)) }
         ensures quiet { IfOk result (λ zone. IsOpened (opened_zone spec.name spec.bytes)) }
+        ensures fault { MatchResult result (λ zone. least_zone (shape_of spec.bytes) ≤ spec.bytes) (IsFaultOf spec.bytes) }
     {
         let Ok(geometry) = Geometry::of(spec.bytes, spec.page_shift) else {
             return Err(OpenFault::TooSmall);

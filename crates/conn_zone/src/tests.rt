@@ -1,0 +1,128 @@
+ghost use Rattle.std.specs.Prelude.{◌≡◌, ◌+◌, ◌<◌, ◌≤◌, [], length, IfOk};
+ghost use Rattle.conn_zone.specs.Object.{IsKey};
+
+use crate::{ConnCall, ConnReply, ConnSpec, ConnZone, OpenFault};
+use std::alloc::Global;
+use std::test::Fail;
+use zone_key::Key;
+use zone_object::{Journal, ZoneView};
+use zone_outside::Text;
+
+/// A zone `c` of 32,768 bytes with an empty journal.
+fn small_zone(alloc: Global, room: u32) -> Result<Journal<ConnZone>, Fail>
+    ensures { IfOk result (λ journal. (journal.room ≡ room) × (journal.log ≡ [])) }
+{
+    let spec = ConnSpec {
+        name: Text::of(alloc, b"c")?,
+        bytes: 32_768,
+        page_shift: 12,
+    };
+    let zone = ConnZone::open(alloc, spec)?;
+    Ok(Journal::new(alloc, zone, room)?)
+}
+
+/// Four calls of two callers on an empty zone: each opens a connection of one key, of which there may be one at once; then
+/// the first closes what it opened, and the second opens again. None where nothing was opened.
+fn one_at_once(
+    journal: &mut Journal<ConnZone>,
+    first: Key,
+    second: Key,
+    third: Key,
+) -> Option<(ConnReply, ConnReply, ConnReply, ConnReply)>
+    requires first { IsKey first }
+    requires second { IsKey second }
+    requires third { IsKey third }
+    requires empty { journal.old.log ≡ [] }
+    requires room { 4 ≤ journal.old.room }
+{
+    let opened = journal.call(
+        0,
+        ConnCall::Open {
+            key: first,
+            limit: 1,
+        },
+    );
+    let refused = journal.call(
+        1,
+        ConnCall::Open {
+            key: second,
+            limit: 1,
+        },
+    );
+    match opened {
+        ConnReply::Opened { at, count: _ } => {
+            let closed = journal.call(0, ConnCall::Close { at });
+            let again = journal.call(
+                1,
+                ConnCall::Open {
+                    key: third,
+                    limit: 1,
+                },
+            );
+            Some((opened, refused, closed, again))
+        }
+        ConnReply::AtLimit { count: _ } => None,
+        ConnReply::NoRoom => None,
+        ConnReply::Closed { count: _ } => None,
+    }
+}
+
+/// A freed node keeps the key's hash and the key but for its first four bytes, which the next grant of the block finds.
+#[test]
+fn rows_of_one_connection(rt: HostRuntime) -> Result<(), Fail> {
+    let alloc = rt.alloc();
+    let mut journal = small_zone(alloc, 4)?;
+    let key = Key::of(alloc, b"123456789")?;
+    let same = Key::of(alloc, b"123456789")?;
+    let other = Key::of(alloc, b"1234")?;
+    let replies = one_at_once(&mut journal, key, same, other);
+    assert_eq!(rt;
+        replies,
+        Some((
+            ConnReply::Opened { at: 4160, count: 1 },
+            ConnReply::AtLimit { count: 1 },
+            ConnReply::Closed { count: 0 },
+            ConnReply::Opened { at: 4160, count: 1 },
+        ))
+    );
+    let zone = journal.object();
+    assert_eq!(rt; zone.entry_count(), 1);
+    assert_eq!(rt; zone.page_count(), 7);
+    assert_eq!(rt; zone.free_count(), 5);
+    assert_eq!(rt; (zone.stat_of(3).used, zone.stat_of(3).reqs), (2, 3));
+    assert_eq!(rt; zone.stat_of(9).total, 0);
+    assert_eq!(rt; zone.words(), 4096);
+    assert_eq!(rt; zone.word_at(20), 8224);
+    assert_eq!(rt; zone.word_at(23), 4096);
+    assert_eq!(rt; zone.word_at(512), 4160);
+    assert_eq!(rt; zone.word_at(513), 4120);
+    assert_eq!(rt; zone.word_at(520), 0x9be3_e0a3);
+    assert_eq!(rt; zone.word_at(524), 0x3433_3231_0001_0400);
+    assert_eq!(rt; zone.word_at(525), 0x39_3837_3635);
+    Ok(())
+}
+
+/// A zone of 32,768 bytes holds 383 nodes of keys of four bytes, and the next key finds no room.
+#[test]
+fn rows_of_a_full_zone(rt: HostRuntime) -> Result<(), Fail> {
+    let alloc = rt.alloc();
+    let mut journal = small_zone(alloc, 384)?;
+    for n in 0..384u32 {
+        let key = Key::of(alloc, &[10, 0, (n / 256) as u8, (n % 256) as u8])?;
+        let reply = journal.call(0, ConnCall::Open { key, limit: 1 });
+        assert_eq!(rt; reply == ConnReply::NoRoom, n == 383, "at {n}");
+    }
+    assert_eq!(rt; journal.object().entry_count(), 383);
+    Ok(())
+}
+
+#[test]
+fn too_small(rt: HostRuntime) -> Result<(), Fail> {
+    let spec = ConnSpec {
+        name: Text::of(rt.alloc(), b"c")?,
+        bytes: 32_767,
+        page_shift: 12,
+    };
+    assert!(rt; matches!(ConnZone::open(rt.alloc(), spec), Err(OpenFault::TooSmall)));
+    Ok(())
+}
