@@ -124,9 +124,19 @@ fn words_of_a_zone(rt: HostRuntime) -> Result<(), Fail> {
     assert_eq!(rt; journal.call(0, check), ReqReply::Pass { excess: 0 });
     let checked = journal.object();
     compare_words(&rt, checked, &FRESH, &CHECKED);
-    assert_eq!(rt; (checked.page_count(), checked.free_count(), checked.entry_count()), (7, 5, 1));
+    assert_eq!(rt;
+        (
+            checked.page_count(),
+            checked.free_count(),
+            checked.entry_count()
+        ),
+        (7, 5, 1)
+    );
     let stat = checked.stat_of(4);
-    assert_eq!(rt; (stat.total, stat.used, stat.reqs, stat.fails), (32, 2, 2, 0));
+    assert_eq!(rt;
+        (stat.total, stat.used, stat.reqs, stat.fails),
+        (32, 2, 2, 0)
+    );
     assert_eq!(rt; checked.stat_of(9).total, 0);
     Ok(())
 }

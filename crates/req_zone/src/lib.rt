@@ -25,7 +25,6 @@ pub use rules::{Allowed, amount, delay};
 pub use state::{ReqEntry, ReqState};
 
 #[cfg(test)]
-mod tests;
-
-#[cfg(test)]
 mod image_tests;
+#[cfg(test)]
+mod tests;

@@ -8,7 +8,7 @@ ghost use Rattle.zonereplay.specs.Reading.{IsInLimits};
 use crate::job::Job;
 use crate::keys::KeyLine;
 use crate::text::line_of;
-use req_zone::{OpenFault, ReqSpec, PlacedZone};
+use req_zone::{OpenFault, PlacedZone, ReqSpec};
 use std::alloc::Global;
 use zone_outside::{NoMemory, Text};
 
