@@ -26,6 +26,3 @@ pub use state::{ReqEntry, ReqState};
 
 #[cfg(test)]
 mod tests;
-
-#[cfg(test)]
-mod image_tests;

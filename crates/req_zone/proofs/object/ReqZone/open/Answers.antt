@@ -20,15 +20,17 @@ returns-clause-laid c =
     let limits = subst (λ (s : Shape). IsInLimits s) shape g.limits in
     let p = subst (λ (s : Shape). LaysPool c.in_ok-pool.pool (fresh_slab s)) shape c.in_ok-pool.ensures.laid in
     let text = c.deref.ensures.value ∙ c.in_ok-text.ensures ∙ ap (λ (bs : List ℕ). name_text bs) c.bytes-2.ensures in
-    let b = c.begin-table.ensures rate bytes name p limits c.requires.name text in
-    (omega (arith, limits.large), record {
-      words = b.0;
-      table_is = b.1;
-      name_is = c.in_ok-name.ensures ∙ c.bytes.ensures;
-      rate_is = refl;
-      entries_is = refl;
-      rate_in = c.requires.rate;
-    })
+    let b = c.begin-table.ensures rate bytes name p limits c.requires.name text in (
+      omega (arith, limits.large),
+      record {
+        words = b.0;
+        table_is = b.1;
+        name_is = c.in_ok-name.ensures ∙ c.bytes.ensures;
+        rate_is = refl;
+        entries_is = refl;
+        rate_in = c.requires.rate;
+      },
+    )
 
 pub invariant_of-result : goal.invariant_of-result
 invariant_of-result c =
@@ -40,12 +42,14 @@ invariant_of-result c =
     let limits = subst (λ (s : Shape). IsInLimits s) shape g.limits in
     let p = subst (λ (s : Shape). LaysPool c.in_ok-pool.pool (fresh_slab s)) shape c.in_ok-pool.ensures.laid in
     let text = c.deref.ensures.value ∙ c.in_ok-text.ensures ∙ ap (λ (bs : List ℕ). name_text bs) c.bytes-2.ensures in
-    let b = c.begin-table.ensures rate bytes name p limits c.requires.name text in
-    (opened_zone rate name bytes, record {
-      words = b.0;
-      table_is = b.1;
-      name_is = c.in_ok-name.ensures ∙ c.bytes.ensures;
-      rate_is = refl;
-      entries_is = refl;
-      rate_in = c.requires.rate;
-    })
+    let b = c.begin-table.ensures rate bytes name p limits c.requires.name text in (
+      opened_zone rate name bytes,
+      record {
+        words = b.0;
+        table_is = b.1;
+        name_is = c.in_ok-name.ensures ∙ c.bytes.ensures;
+        rate_is = refl;
+        entries_is = refl;
+        rate_in = c.requires.rate;
+      },
+    )

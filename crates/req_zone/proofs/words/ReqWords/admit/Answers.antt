@@ -15,9 +15,9 @@ add-requires g c =
     let s = c.requires.laid.0 in
     let h = c.requires.laid.1 in
     let came : Comes c.args.self.now.pool c.alloc.new.self c.write_node.new.blocks s (entry_with c.args.key.now c.in_ok-b.b.at c.fresh.result) (block_bytes s.slab (80 + c.len.result) / 8) =
-        comes c.args.self.now c.alloc.new.self c.write_node.new.blocks s c.args.key.now c.bytes.result.now c.in_ok-b.b.at (80 + c.len.result) c.fresh.result h c.requires.laid.2
-        (record { block = c.in_ok-b.ensures.block; laid = c.in_ok-b.ensures.laid; words = c.in_ok-b.ensures.words; room = c.in_ok-b.ensures.room; kept = c.in_ok-b.ensures.kept })
-        (omega (arith, c.len.ensures)) c.bytes.ensures c.write_node.ensures.sets c.write_node.ensures.rest in
+    comes c.args.self.now c.alloc.new.self c.write_node.new.blocks s c.args.key.now c.bytes.result.now c.in_ok-b.b.at (80 + c.len.result) c.fresh.result h c.requires.laid.2
+    (record { block = c.in_ok-b.ensures.block; laid = c.in_ok-b.ensures.laid; words = c.in_ok-b.ensures.words; room = c.in_ok-b.ensures.room; kept = c.in_ok-b.ensures.kept })
+    (omega (arith, c.len.ensures)) c.bytes.ensures c.write_node.ensures.sets c.write_node.ensures.rest in
     (blocks_in s.table, can_be_added c.args.self.now c.alloc.new.self c.write_node.new.blocks s (entry_with c.args.key.now c.in_ok-b.b.at c.fresh.result) _ h came)
 
 pub overflow_add-self : goal.overflow_add-self
@@ -43,9 +43,9 @@ pub returns-clause-laid : goal.returns-clause-laid
 returns-clause-laid g c s h none =
     let at = c.in_ok-b.b.at in
     let came : Comes c.args.self.now.pool c.alloc.new.self c.write_node.new.blocks s (entry_with c.args.key.now at c.fresh.result) (block_bytes s.slab (80 + c.len.result) / 8) =
-        comes c.args.self.now c.alloc.new.self c.write_node.new.blocks s c.args.key.now c.bytes.result.now at (80 + c.len.result) c.fresh.result h none
-        (record { block = c.in_ok-b.ensures.block; laid = c.in_ok-b.ensures.laid; words = c.in_ok-b.ensures.words; room = c.in_ok-b.ensures.room; kept = c.in_ok-b.ensures.kept })
-        (omega (arith, c.len.ensures)) c.bytes.ensures c.write_node.ensures.sets c.write_node.ensures.rest in
+    comes c.args.self.now c.alloc.new.self c.write_node.new.blocks s c.args.key.now c.bytes.result.now at (80 + c.len.result) c.fresh.result h none
+    (record { block = c.in_ok-b.ensures.block; laid = c.in_ok-b.ensures.laid; words = c.in_ok-b.ensures.words; room = c.in_ok-b.ensures.room; kept = c.in_ok-b.ensures.kept })
+    (omega (arith, c.len.ensures)) c.bytes.ensures c.write_node.ensures.sets c.write_node.ensures.rest in
     let can = can_be_added c.args.self.now c.alloc.new.self c.write_node.new.blocks s (entry_with c.args.key.now at c.fresh.result) _ h came in
     let added = is_added c.args.self.now c.write_node.new.blocks c.add.new.blocks s at h (c.add.ensures.lays (blocks_in s.table) can) (c.add.ensures.changes (blocks_in s.table) can) c.add.ensures.rest in
     record {
@@ -61,9 +61,9 @@ pub returns-clause-cost : goal.returns-clause-cost
 returns-clause-cost g c s h none =
     let at = c.in_ok-b.b.at in
     let came : Comes c.args.self.now.pool c.alloc.new.self c.write_node.new.blocks s (entry_with c.args.key.now at c.fresh.result) (block_bytes s.slab (80 + c.len.result) / 8) =
-        comes c.args.self.now c.alloc.new.self c.write_node.new.blocks s c.args.key.now c.bytes.result.now at (80 + c.len.result) c.fresh.result h none
-        (record { block = c.in_ok-b.ensures.block; laid = c.in_ok-b.ensures.laid; words = c.in_ok-b.ensures.words; room = c.in_ok-b.ensures.room; kept = c.in_ok-b.ensures.kept })
-        (omega (arith, c.len.ensures)) c.bytes.ensures c.write_node.ensures.sets c.write_node.ensures.rest in
+    comes c.args.self.now c.alloc.new.self c.write_node.new.blocks s c.args.key.now c.bytes.result.now at (80 + c.len.result) c.fresh.result h none
+    (record { block = c.in_ok-b.ensures.block; laid = c.in_ok-b.ensures.laid; words = c.in_ok-b.ensures.words; room = c.in_ok-b.ensures.room; kept = c.in_ok-b.ensures.kept })
+    (omega (arith, c.len.ensures)) c.bytes.ensures c.write_node.ensures.sets c.write_node.ensures.rest in
     let can = can_be_added c.args.self.now c.alloc.new.self c.write_node.new.blocks s (entry_with c.args.key.now at c.fresh.result) _ h came in
     subst (λ (n : ℕ). c.add.new.steps ≤ c.args.steps.now + (3 * search_cost n (length c.args.key.now) + 24)) (count_blocks s) (c.add.ensures.cost (blocks_in s.table) can)
 
