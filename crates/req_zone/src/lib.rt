@@ -25,6 +25,4 @@ pub use rules::{Allowed, amount, delay};
 pub use state::{ReqEntry, ReqState};
 
 #[cfg(test)]
-mod image_tests;
-#[cfg(test)]
 mod tests;
