@@ -9,3 +9,9 @@ pub mod Laws
 pub mod Rows
 pub mod Proving
 pub mod ObjectLaws
+pub mod Numbers
+pub mod Words
+pub mod Steps
+pub mod Layout
+pub mod Lays
+pub mod WordsLaws

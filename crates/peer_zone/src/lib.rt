@@ -1,10 +1,20 @@
-//! The zone of an upstream's servers: which of them takes the next request, and what its end tells of it. So far its
-//! rules and their law, and no zone in words.
+//! The zone of an upstream's servers: which of them takes the next request, and what its end tells of it. It has the
+//! rules, their law, and the calls of a zone in words; nothing opens such a zone yet.
 #![tactic(auto)]
 
 mod calls;
+mod choosing;
+mod numbers;
+mod object;
+mod records;
+mod rounds;
 mod state;
+mod takers;
 pub mod theorems;
+mod words;
+mod writing;
 
 pub use calls::{Method, PeerCall, PeerReply, PeerSpec, Server};
+pub use object::PeerZone;
 pub use state::{PeerRecord, PeerState};
+pub use words::PeerWords;

@@ -73,7 +73,7 @@ live-same : (old new : Slab) (at : ℕ) → live_bytes new at ≡ live_bytes old
 live-same old new at same = ap (λ n. cond {A = ℕ} (ltb 0 n) 1 0) same
 
 -- what is named before other blocks
-named-more : (block : ℕ) (blocks : List ℕ) (at : ℕ) → named_at (block ∷ blocks) at ≡ cond (eqb block at) 1 0 + named_at blocks at
+pub named-more : (block : ℕ) (blocks : List ℕ) (at : ℕ) → named_at (block ∷ blocks) at ≡ cond (eqb block at) 1 0 + named_at blocks at
 named-more block blocks at = sum_by-cons (λ n. cond {A = ℕ} (eqb n at) 1 0) block blocks
 
 named-here : (at : ℕ) → cond {A = ℕ} (eqb at at) 1 0 ≡ 1

@@ -18,7 +18,7 @@ use Rattle.peer_zone.specs.Proving.Found.{IsFound, some_same, best-found, least-
 -- ---- one record becomes another
 
 -- the record of this index is another, and its server the same
-servers-change : (f : PeerRecord → PeerRecord) → ((p : PeerRecord) → (f p).server ≡ p.server) → (index : ℕ) (ps : List PeerRecord) → servers_of (change_at index f ps) ≡ servers_of ps
+pub servers-change : (f : PeerRecord → PeerRecord) → ((p : PeerRecord) → (f p).server ≡ p.server) → (index : ℕ) (ps : List PeerRecord) → servers_of (change_at index f ps) ≡ servers_of ps
 servers-change f same index [] = refl
 servers-change f same zero (p ∷ ps) = ap (λ (s : Server). s ∷ servers_of ps) (same p)
 servers-change f same (suc index) (p ∷ ps) = ap (λ (ss : List Server). p.server ∷ ss) (servers-change f same index ps)
@@ -68,7 +68,7 @@ conns-less f less (suc at) (q ∷ qs) some (suc index) = ap (λ n. conns_at (cha
 raised_one : Bool → PeerRecord → PeerRecord
 raised_one b p = cond b (raised p) p
 
-servers-raised : (part : Part) (from : ℕ) (ps : List PeerRecord) → servers_of (raised_in part from ps) ≡ servers_of ps
+pub servers-raised : (part : Part) (from : ℕ) (ps : List PeerRecord) → servers_of (raised_in part from ps) ≡ servers_of ps
 servers-raised part from [] = refl
 servers-raised part from (p ∷ ps) = go (part from p) (servers-raised part (from + 1) ps) where
   go : (b : Bool) → servers_of (raised_in part (from + 1) ps) ≡ servers_of ps → servers_of (cond b (raised p) p ∷ raised_in part (from + 1) ps) ≡ servers_of (p ∷ ps)
@@ -180,7 +180,7 @@ All-settled : (n total now : ℕ) → total ≤ greatest_move → IsMoment now �
 All-settled n total now few is None ps h = All-weaker (IsRaised n) (IsWithin (n + 1)) (IsWithin-left n) ps h
 All-settled n total now few is (Some best) ps h = All-change (IsRaised n) (IsWithin (n + 1)) (taken total now) (IsWithin-left n) (IsWithin-taken n total now few is) best.index ps h
 
-servers-settled : (total now : ℕ) (best : Option Found) (ps : List PeerRecord) → servers_of (settled total now best ps).peers ≡ servers_of ps
+pub servers-settled : (total now : ℕ) (best : Option Found) (ps : List PeerRecord) → servers_of (settled total now best ps).peers ≡ servers_of ps
 servers-settled total now None ps = refl
 servers-settled total now (Some best) ps = servers-change (taken total now) (λ p. refl) best.index ps
 
