@@ -1,5 +1,6 @@
 pub mod Coding
 pub mod Amounts
 pub mod Hexadecimal
+pub mod CheckText
 pub mod HistoryText
 pub mod TailText

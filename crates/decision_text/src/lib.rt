@@ -1,6 +1,7 @@
 //! The texts that the program prints, each by its definition.
 #![tactic(auto)]
 
+mod check;
 mod coding;
 mod hexadecimal;
 mod history;
@@ -10,6 +11,7 @@ mod tail;
 mod tests;
 pub mod theorems;
 
+pub use check::check_text;
 pub use coding::push_coded;
 pub use history::{push_conn_entry, push_peer_entry, push_req_entry, push_zone_head};
 pub use numbers::{push_number, push_thousandths};

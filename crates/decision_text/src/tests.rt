@@ -1,9 +1,13 @@
-use crate::{push_conn_entry, push_peer_entry, push_req_entry, push_thousandths, push_zone_head};
+use crate::{
+    check_text, push_conn_entry, push_peer_entry, push_req_entry, push_thousandths, push_zone_head,
+};
 use conn_zone::{ConnCall, ConnReply};
+use directive_text::read;
 use peer_zone::{PeerCall, PeerReply};
 use req_zone::{ReqCall, ReqReply};
 use std::alloc::Global;
 use std::test::Fail;
+use zone_config::config_of;
 use zone_key::Key;
 
 /// The heads of zones: a name with a blank and a `%`, and one without.
@@ -162,5 +166,46 @@ fn amounts(rt: HostRuntime) -> Result<(), Fail> {
         text.as_slice(),
         b"0.000 0.007 1.000 5.891 12345.060 ".as_slice()
     );
+    Ok(())
+}
+
+/// Directives with a zone of each kind, a location that inherits and one that doesn't, and an upstream without a zone.
+const DIRECTIVES: &[u8] = b"worker_processes 2;
+http {
+  limit_req_zone $binary_remote_addr zone=one:10m rate=1r/s;
+  limit_conn_zone $binary_remote_addr zone=addr:32768;
+  upstream back { zone back_zone 10m; server a weight=5; server b backup; least_conn; }
+  upstream plain { server c; server d; }
+  server {
+    limit_conn addr 10;
+    location / { proxy_pass http://back; limit_req zone=one burst=5; }
+    location ~ \\.php$ { limit_conn addr 1; }
+  }
+}
+";
+
+/// What `check` says of them.
+const CHECKED: &str = "zone one req bytes=10485760 pages=2544
+zone addr conn bytes=32768 pages=7
+zone back_zone peer bytes=10485760 pages=2544
+upstream back primary=1 backup=1 method=least zone=back_zone
+upstream plain primary=2 backup=0 method=round zone=-
+server req=0 conn=1
+location / req=1 conn=1
+location ~%20\\.php$ req=0 conn=1
+passed over 1
+";
+
+#[test]
+fn configurations(rt: HostRuntime) -> Result<(), Fail> {
+    let alloc = rt.alloc();
+    let Ok(tree) = read(alloc, DIRECTIVES) else {
+        return Err(Fail::new("the directives have a fault"));
+    };
+    let Ok(config) = config_of(alloc, &tree) else {
+        return Err(Fail::new("a rule is broken"));
+    };
+    let text = check_text(alloc, &config)?;
+    assert_eq!(rt; text.bytes(), CHECKED.as_bytes());
     Ok(())
 }
