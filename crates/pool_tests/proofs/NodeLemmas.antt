@@ -47,7 +47,7 @@ connection_bytes : (slab : Slab) → block_bytes slab 40 ≡ 64
 unfolding block_bytes class_of class_size
 connection_bytes slab = refl
 
-context_bytes : (slab : Slab) → block_bytes slab 80 ≡ 128
+pub context_bytes : (slab : Slab) → block_bytes slab 80 ≡ 128
 unfolding block_bytes class_of class_size
 context_bytes slab = refl
 

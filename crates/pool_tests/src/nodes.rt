@@ -25,7 +25,7 @@ pub fn begin(pool: &mut Pool, form: Form) -> Option<Tree>
 }
 
 /// Writes key `k`, its length and its CRC-32 into a node. A connection node holds three connections.
-fn write_key(pool: &mut Pool, t: &Tree, keys: &Keys, k: u64, key: &Key, b: Block)
+pub(crate) fn write_key(pool: &mut Pool, t: &Tree, keys: &Keys, k: u64, key: &Key, b: Block)
     requires form { IsForm t.now.form }
     requires range { k < length keys.now.numbers.items }
     requires short { keys.now.len ≤ 8 }
