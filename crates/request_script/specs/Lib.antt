@@ -1,0 +1,12 @@
+pub mod Turn
+pub mod Zones
+pub mod ReqLimits
+pub mod ConnLimits
+pub mod Peers
+pub mod Steps
+pub mod Drive
+pub mod Replies
+pub mod ZoneSpecs
+pub mod Permitted
+pub mod Laws
+pub mod Rows

@@ -1,0 +1,20 @@
+//! A request's steps: what a line of a log asks of the zones, by the replies so far, and what is decided of it.
+#![tactic(auto)]
+
+mod active;
+mod call;
+mod decision;
+mod room;
+mod said;
+pub mod theorems;
+mod zone_specs;
+
+pub use active::{Active, Opened, Taken};
+pub use call::{ZoneCall, ZoneReply};
+pub use decision::{ConnStatus, Decision, Excess, Notice, Outcome, PeerAt, ReqStatus};
+pub use room::rooms;
+pub use said::{Delay, Hold, ReqSaid};
+pub use zone_specs::{conn_spec, peer_spec, req_spec};
+
+#[cfg(test)]
+mod tests;
