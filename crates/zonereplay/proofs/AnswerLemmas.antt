@@ -1,11 +1,9 @@
 -- The causes of the statuses.
 use Rattle.std.proofs.Common.{ℕ, ◌≡◌, ◌⊎◌, List, Option, Some, None, Result, Ok, Err, ap, arith, sym, subst, refl, inl, inr}
 use Rattle.std.specs.Io.KnownBytes.{Keeps}
-use Rattle.std.specs.declared.vec.Vec.{Vec}
-use Rattle.std.specs.declared.alloc.Global.{Global}
 use Rattle.zonereplay.specs.declared.status.Status.{Status}
 use Rattle.zonereplay.specs.declared.status.Status.TheVariants as status
-use Rattle.zonereplay.specs.declared.stop.Refusal.TheVariants.{Usage, TooLong, Log}
+use Rattle.zonereplay.specs.declared.stop.Refusal.TheVariants.{Usage, TooLong, Text, Rule, Log}
 use Rattle.zonereplay.specs.declared.stop.Stop.{Stop}
 use Rattle.zonereplay.specs.declared.stop.Stop.TheVariants.{Refused, ReadFault, NoMemory}
 use Rattle.zonereplay.specs.Statuses.{code_of}
@@ -43,17 +41,21 @@ stopped plan before after stop out cause whole = record { stop = stop; status_is
 stop_says : (plan : Plan) (before after : Devices) (stop : Stop) (answer : Status) → TakesNone before.out after.out → Stops plan before.files after.files stop → StopTold stop answer before.err after.err → Says plan before after answer
 stop_says plan before after (Refused Usage) answer out cause tells = line_says plan before after (Refused Usage) answer out cause (stopped plan before after (Refused Usage) out cause) tells
 stop_says plan before after (Refused TooLong) answer out cause tells = line_says plan before after (Refused TooLong) answer out cause (stopped plan before after (Refused TooLong) out cause) tells
+stop_says plan before after (Refused (Text line kind)) answer out cause (inl tells) = line_says plan before after (Refused (Text line kind)) answer out cause (stopped plan before after (Refused (Text line kind)) out cause) tells
+stop_says plan before after (Refused (Text line kind)) answer out cause (inr want) = want_says plan before after answer out cause.1 want
+stop_says plan before after (Refused (Rule line rule)) answer out cause (inl tells) = line_says plan before after (Refused (Rule line rule)) answer out cause (stopped plan before after (Refused (Rule line rule)) out cause) tells
+stop_says plan before after (Refused (Rule line rule)) answer out cause (inr want) = want_says plan before after answer out cause.1 want
 stop_says plan before after (Refused (Log line kind)) answer out cause (inl tells) = line_says plan before after (Refused (Log line kind)) answer out cause (stopped plan before after (Refused (Log line kind)) out cause) tells
 stop_says plan before after (Refused (Log line kind)) answer out cause (inr want) = want_says plan before after answer out cause.1 want
 stop_says plan before after ReadFault answer out cause tells = line_says plan before after ReadFault answer out cause (stopped plan before after ReadFault out cause) tells
 stop_says plan before after NoMemory answer out cause want = want_says plan before after answer out cause want
 
--- lines that were prepared were written, or a write failed
-lines_say : (plan : Plan) (before after : Devices) (lines : List (List ℕ)) (answer : Status) → Prints before.files.contents plan lines → FilesCalm before.files after.files → Wrote lines answer before.out after.out before.err after.err → Says plan before after answer
-lines_say plan before after lines answer prints files (inl (is, out, err)) =
-    subst (Says plan before after) (sym is) (record { told = prints.told; ends = prints.ends; lines = lines; shown = prints.shown; files = files; out = out; err = err })
-lines_say plan before after lines answer prints files (inr (is, out, err)) =
-    subst (Says plan before after) (sym is) (inl (record { told = prints.told; ends = prints.ends; lines = lines; shown = prints.shown; files = files; out = out; err = err }))
+-- a text that was prepared was written, or a write failed
+text_says : (plan : Plan) (before after : Devices) (text : List ℕ) (answer : Status) → Prints before.files.contents plan text → FilesCalm before.files after.files → Wrote text answer before.out after.out before.err after.err → Says plan before after answer
+text_says plan before after text answer prints files (inl (is, out, err)) =
+    subst (Says plan before after) (sym is) (record { told = prints.told; ends = prints.ends; text = text; shown = prints.shown; files = files; out = out; err = err })
+text_says plan before after text answer prints files (inr (is, out, err)) =
+    subst (Says plan before after) (sym is) (inl (record { told = prints.told; ends = prints.ends; text = text; shown = prints.shown; files = files; out = out; err = err }))
 
 -- ---- completeness
 
@@ -72,6 +74,7 @@ free_line plan before after NoMemory free cause fault = omega (arith, fault.line
 complete : (plan : Plan) (before after : Devices) (status : Status) → Says plan before after status → IsFree plan before after → (code_of status ≡ 0) ⊎ (code_of status ≡ 7)
 complete plan before after status.Done all free = inl refl
 complete plan before after status.Usage told free = inr (free_stop plan before after told.stop status.Usage free told.cause told.status_is)
+complete plan before after status.ConfigFault told free = inr (free_stop plan before after told.stop status.ConfigFault free told.cause told.status_is)
 complete plan before after status.LogFault told free = inr (free_stop plan before after told.stop status.LogFault free told.cause told.status_is)
 complete plan before after status.ReadFault told free = inr (free_stop plan before after told.stop status.ReadFault free told.cause told.status_is)
 complete plan before after status.TooLong told free = inr (free_stop plan before after told.stop status.TooLong free told.cause told.status_is)
@@ -85,9 +88,9 @@ does plan before after status files says = record { status = status; number_is =
 -- ---- how a command ends
 
 -- a command that followed its plan and concluded
-pub command_does : (plan : Plan) (before after : Devices) (prepared : Result (Vec (List ℕ) Global) Stop) (status : Status) → Prepares plan before.files after.files prepared
+pub command_does : (plan : Plan) (before after : Devices) (prepared : Result (List ℕ) Stop) (status : Status) → Prepares plan before.files after.files prepared
     → Concludes prepared status before.out after.out before.err after.err → Does plan before after (code_of status)
-command_does plan before after (Ok lines) status prepares wrote = does plan before after status prepares.files (lines_say plan before after lines.items status prepares.gives.0 prepares.gives.1 wrote)
+command_does plan before after (Ok text) status prepares wrote = does plan before after status prepares.files (text_says plan before after text status prepares.gives.0 prepares.gives.1 wrote)
 command_does plan before after (Err why) status prepares concludes = does plan before after status prepares.files (stop_says plan before after why status concludes.0 prepares.gives concludes.1)
 
 -- words of no form

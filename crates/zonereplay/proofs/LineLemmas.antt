@@ -1,28 +1,20 @@
--- Lines written one after another.
-use Rattle.std.proofs.Common.{ℕ, ◌≡◌, ◌+◌, ◌<◌, ◌≤◌, List, [], ◌∷◌, ◌++◌, length, get_or, take, drop, sym, ap, ◌∙◌, refl, arith, zero, suc, length-append, append_assoc}
-use Rattle.std.specs.List.{concat}
+-- A text that is written line after line.
+use Rattle.std.proofs.Common.{ℕ, ◌≡◌, ◌+◌, ◌<◌, ◌≤◌, List, ◌++◌, length, take, drop, sym, ap, ◌∙◌, arith, length-append, append_assoc}
 use Rattle.std.proofs.Math.Seq.{take-append-add}
-use Rattle.std.proofs.lemmas.List.{take-append-le}
-use Rattle.std.proofs.lemmas.Grind.{common_steps}
+use Rattle.std.proofs.lemmas.List.{take-append-le, take-append-drop}
 
--- all lines are those before one, that one, and those after it
-pub lines_at : (lines : List (List ℕ)) (i : ℕ) (line : List ℕ) → i < length lines → line ≡ get_or lines i line → concat lines ≡ concat (take i lines) ++ (line ++ concat (drop (suc i) lines))
-lines_at [] i line below is = absurd (omega arith)
-lines_at (first ∷ rest) zero line below is = rw is refl
-lines_at (first ∷ rest) (suc i) line below is = rw (lines_at rest i line (omega arith) is) (sym (append_assoc first _ _))
+-- the line and what is behind it are what was left
+pub cut_is : (rest line later : List ℕ) (n : ℕ) → line ≡ take n rest → later ≡ drop n rest → line ++ later ≡ rest
+cut_is rest line later n front back = ap (λ (t : List ℕ). t ++ later) front ∙ ap (λ (t : List ℕ). take n rest ++ t) back ∙ take-append-drop n rest
 
--- one line more
-pub lines_more : (lines : List (List ℕ)) (i : ℕ) (line : List ℕ) → i < length lines → line ≡ get_or lines i line → concat (take (suc i) lines) ≡ concat (take i lines) ++ line
-lines_more [] i line below is = absurd (omega arith)
-lines_more (first ∷ rest) zero line below is = grind (arith, common_steps)
-lines_more (first ∷ rest) (suc i) line below is = rw (lines_more rest i line (omega arith) is) (sym (append_assoc first _ _))
+-- what was written with the line, before what is behind it
+pub line_after : (text done rest line later : List ℕ) → text ≡ done ++ rest → line ++ later ≡ rest → text ≡ (done ++ line) ++ later
+line_after text done rest line later is cut = is ∙ ap (λ (t : List ℕ). done ++ t) (sym cut) ∙ sym (append_assoc done line later)
 
--- a part of a line is part of the text
-pub line_part : (lines : List (List ℕ)) (i n : ℕ) (line : List ℕ) → i < length lines → line ≡ get_or lines i line → n < length line → (m : ℕ) × (m < length (concat lines)) × (take m (concat lines) ≡ concat (take i lines) ++ take n line)
-line_part lines i n line below is part =
-    let front = concat (take i lines) in
-    let back = concat (drop (suc i) lines) in
-    let whole = lines_at lines i line below is in
-    let here : n ≤ length line = omega arith in
-    let taken : take (length front + n) (front ++ (line ++ back)) ≡ front ++ take n line = take-append-add front (line ++ back) n ∙ ap (λ (xs : List ℕ). front ++ xs) (take-append-le n line back here) in
-    (length front + n, rw whole (omega (arith, length-append front (line ++ back), length-append line back)), ap (take (length front + n)) whole ∙ taken)
+-- a proper part of the line is a proper part of the text
+pub line_part : (text done rest line later : List ℕ) (n : ℕ) → text ≡ done ++ rest → line ++ later ≡ rest → n < length line → (m : ℕ) × (m < length text) × (take m text ≡ done ++ take n line)
+line_part text done rest line later n is cut part =
+    let whole : text ≡ done ++ (line ++ later) = is ∙ ap (λ (t : List ℕ). done ++ t) (sym cut) in
+    let here : n ≤ length line = omega (arith, part) in
+    let taken : take (length done + n) (done ++ (line ++ later)) ≡ done ++ take n line = take-append-add done (line ++ later) n ∙ ap (λ (t : List ℕ). done ++ t) (take-append-le n line later here) in
+    (length done + n, rw whole (omega (arith, part, length-append done (line ++ later), length-append line later)), ap (take (length done + n)) whole ∙ taken)

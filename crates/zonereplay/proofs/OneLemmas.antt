@@ -1,63 +1,94 @@
--- The lines of `one`, from the left.
-use Rattle.std.proofs.Common.{ℕ, ◌≡◌, ◌+◌, ◌≤◌, Bool, true, false, cond, ltb, List, [], ◌∷◌, ◌++◌, length, Option, Some, None, arith, ap, sym, subst, ◌∙◌, refl, append_assoc}
-use Rattle.std.proofs.lemmas.Bool.{ltb-false}
-use Rattle.req_zone.specs.declared.calls.ReqReply.{ReqReply}
-use Rattle.req_zone.specs.declared.calls.ReqReply.TheVariants.{Pass, Busy}
-use Rattle.req_zone.specs.Amount.{amount_of}
-use Rattle.req_zone.specs.declared.state.ReqEntry.{ReqEntry}
-use Rattle.req_zone.specs.Table.{entry_of, others}
-use Rattle.req_zone.specs.State.{State}
-use Rattle.req_zone.specs.Expiry.{first_leaving, evict}
+-- The zone of `one` over the keys of a log.
+use Rattle.std.proofs.Common.{ℕ, ◌≡◌, ◌+◌, ◌<◌, ◌≤◌, ◌^◌, Bool, true, false, cond, ltb, List, [], ◌∷◌, ◌++◌, length, Option, Some, None, arith, ap, sym, subst, ◌∙◌, refl, length-append, append_assoc}
+use Rattle.std.specs.List.{concat}
+use Rattle.std.proofs.lemmas.Bool.{lt-ltb, le-ltb}
+use Rattle.zone_object.specs.declared.object.Entry.{Entry}
+use Rattle.zone_object.specs.History.{entry, run}
+use Rattle.zone_object.proofs.Histories.{run-append, has_run-nil, has_run-snoc, ready_next}
 use Rattle.req_zone.specs.declared.calls.ReqCall.{ReqCall}
 use Rattle.req_zone.specs.declared.calls.ReqCall.TheVariants.{Check}
-use Rattle.req_zone.specs.Step.{node_size, step, replies_of, check_as, after_first, after_second, within_burst}
-use Rattle.req_zone.specs.Counted.{places, Zone, Answers}
-use Rattle.zonereplay.specs.OneText.{delayed_excess, reply_line, reply_lines, checks}
+use Rattle.req_zone.specs.declared.calls.ReqReply.{ReqReply}
+use Rattle.req_zone.specs.declared.calls.ReqReply.TheVariants.{Pass, Again, Busy, NoRoom, Accounted, Released}
+use Rattle.req_zone.specs.declared.state.ReqState.{ReqState}
+use Rattle.req_zone.specs.declared.words.ReqWords.{ReqWords}
+use Rattle.req_zone.specs.Object.{IsOpened, answer_of, zone_after, Permits, Ready, IsAsked, CanCheck}
+use Rattle.req_zone.specs.ObjectLaws.{ready-law}
+use Rattle.req_zone.specs.Proving.Answers.{answer-law}
+use Rattle.req_zone.specs.Lays.{Lays}
 use Rattle.zonereplay.specs.declared.keys.KeyLine.{KeyLine}
+use Rattle.zonereplay.specs.Words.{OneJob}
+use Rattle.zonereplay.specs.OneText.{delayed_excess, check_of, is_long, reply_to, after_key, key_line, key_lines}
+use Rattle.zonereplay.specs.Checking.{HasAnswered}
 
--- a reply that passes has an excess within the burst
-abbrev pub PassesWithin : ℕ → ReqReply → Type 0
-PassesWithin burst (Pass excess) = excess ≤ burst
-PassesWithin burst reply = Unit {0}
+-- a zone that was just opened has answered nothing
+pub opened_answered : (zone : ReqWords) (s : ReqState) → IsOpened s → Lays zone s → HasAnswered zone s 0 s
+opened_answered zone s quiet laid = record { log = []; ran = has_run-nil IsOpened Lays answer_of zone_after Permits s zone quiet laid; state = refl; few = omega arith }
 
-second_within : (burst : ℕ) (key : List ℕ) (now evicted : ℕ) (table : List ReqEntry) (at : Option ℕ) (store : ℕ) → PassesWithin burst (after_second key now true evicted table at store).0
-second_within burst key now evicted table None store = tt
-second_within burst key now evicted table (Some at) store = omega arith
+-- it lays out the state that it is said to be in
+pub answered_laid : (zone : ReqWords) (start s : ReqState) (calls : ℕ) → HasAnswered zone start calls s → Lays zone s
+answered_laid zone start s calls h = subst (Lays zone) h.state h.ran.laid
 
-first_within : (burst rate : ℕ) (key : List ℕ) (now evicted : ℕ) (table : List ReqEntry) (at : Option ℕ) (store : ℕ) → PassesWithin burst (after_first places rate key now true evicted table at store).0
-first_within burst rate key now evicted table None store = second_within burst key now _ _ _ _
-first_within burst rate key now evicted table (Some at) store = omega arith
+-- a check in its ranges is ready
+pub answered_ready : (zone : ReqWords) (start s : ReqState) (calls : ℕ) (key : List ℕ) (now burst : ℕ) → HasAnswered zone start calls s → calls + 1 < 2 ^ 32 → IsAsked key now burst → Ready s (Check key now burst true)
+answered_ready zone start s calls key now burst h short asked =
+    let few = h.few in
+    subst (λ (t : ReqState). Ready t (Check key now burst true)) h.state
+    (ready_next IsOpened answer_of zone_after Permits Ready ready-law start h.log 0 (Check key now burst true) h.ran.history (omega (arith, few, short)) asked)
 
-found_within : (burst now amount : ℕ) (entry : ReqEntry) (rest : List ReqEntry) (b : Bool) → ltb burst amount ≡ b → PassesWithin burst (cond b (Busy amount, entry ∷ rest) (within_burst amount now true entry rest)).0
-found_within burst now amount entry rest true is = tt
-found_within burst now amount entry rest false is = ltb-false burst amount is
+-- and is one call more
+pub answered_more : (zone after : ReqWords) (start s : ReqState) (calls : ℕ) (key : List ℕ) (now burst : ℕ) → HasAnswered zone start calls s → calls + 1 < 2 ^ 32 → IsAsked key now burst
+    → Lays after (zone_after s (Check key now burst true)) → HasAnswered after start (calls + 1) (zone_after s (Check key now burst true))
+answered_more zone after start s calls key now burst h short asked laid =
+    let few = h.few in
+    let call : ReqCall = Check key now burst true in
+    let there : ReqState = run zone_after start h.log in
+    let e : Entry ReqWords ReqState ReqCall ReqReply = entry 0 call (answer_of there call) in
+    let became : Lays after (zone_after there call) = subst (λ (t : ReqState). Lays after (zone_after t call)) (sym h.state) laid in
+    record {
+      log = h.log ++ e ∷ [];
+      ran = has_run-snoc IsOpened Lays answer_of zone_after Permits start zone after h.log e h.ran became refl (omega (arith, few, short)) asked;
+      state = run-append zone_after start h.log (e ∷ []) ∙ ap (λ (t : ReqState). zone_after t call) h.state;
+      few = omega (arith, few, length-append h.log (e ∷ []));
+    }
 
-as_within : (burst rate : ℕ) (key : List ℕ) (now : ℕ) (state : State ℕ) (found : Option ReqEntry) → PassesWithin burst (check_as places rate key now burst true state found).0
-as_within burst rate key now state None =
-    let stale = first_leaving rate now state.table in
-    let left = evict places state stale in
-    let granted = places.grant left.memory (node_size + length key) in
-    first_within burst rate key now stale left.table granted.0 granted.1
-as_within burst rate key now state (Some entry) = found_within burst now (amount_of rate entry.excess entry.last now) entry (others key state.table) (ltb burst (amount_of rate entry.excess entry.last now)) refl
+-- no call more is as few
+pub answered_still : (zone : ReqWords) (start s : ReqState) (calls : ℕ) → HasAnswered zone start calls s → HasAnswered zone start (calls + 1) s
+answered_still zone start s calls h = let few = h.few in record { log = h.log; ran = h.ran; state = h.state; few = omega (arith, few) }
 
-excess_within : (burst : ℕ) (reply : ReqReply) → PassesWithin burst reply → delayed_excess reply ≤ burst
-excess_within burst (Pass excess) within = within
-excess_within burst reply within = omega arith
+within : (entries burst : ℕ) (reply : ReqReply) → CanCheck entries burst true reply → delayed_excess reply < 2 ^ 52
+within entries burst (Pass excess) can = can.1
+within entries burst (Again excess at) can = absurd can
+within entries burst (Busy excess) can = omega arith
+within entries burst (NoRoom evicted) can = omega arith
+within entries burst (Accounted excess) can = absurd can
+within entries burst Released can = absurd can
 
--- what is delayed is within the burst
-pub delayed_within : (burst : ℕ) (old new : Zone) (key : List ℕ) (now : ℕ) (reply : ReqReply) → Answers old new (Check key now burst true) reply → delayed_excess reply ≤ burst
-delayed_within burst old new key now reply answers = excess_within burst reply (subst (PassesWithin burst) (sym answers.reply_is) (as_within burst old.rate key now old.state (entry_of key old.state.table)))
+-- what is delayed is small
+pub delayed_small : (s : ReqState) (key : List ℕ) (now burst : ℕ) → Ready s (Check key now burst true) → delayed_excess (answer_of s (Check key now burst true)) < 2 ^ 52
+delayed_small s key now burst ready = within (length s.table) burst (answer_of s (Check key now burst true)) (answer-law s (Check key now burst true) ready)
 
--- one line more
-pub line_more : (rate burst n : ℕ) (old new : Zone) (line : KeyLine) (rest : List KeyLine) (reply : ReqReply) (lines : List (List ℕ)) (text : List ℕ)
-    → Answers old new (Check line.key line.moment burst true) reply → old.rate ≡ rate → text ≡ reply_line n rate reply
-    → lines ++ reply_lines n rate (replies_of places rate old.state (checks burst (line ∷ rest))) ≡ (lines ++ text ∷ []) ++ reply_lines (n + 1) rate (replies_of places rate new.state (checks burst rest))
-line_more rate burst n old new line rest reply lines text answers same is =
-    let call : ReqCall = Check line.key line.moment burst true in
-    let replied : reply ≡ (step places rate old.state call).0 = answers.reply_is ∙ ap (λ r. (step places r old.state call).0) same in
-    let became : new.state ≡ (step places rate old.state call).1 = answers.state_is ∙ ap (λ r. (step places r old.state call).1) same in
-    let first : reply_line n rate (step places rate old.state call).0 ≡ text = sym (is ∙ ap (reply_line n rate) replied) in
-    let later = sym (ap (λ s. reply_lines (n + 1) rate (replies_of places rate s (checks burst rest))) became) in
-    ap (λ (l : List ℕ). lines ++ l ∷ reply_lines (n + 1) rate (replies_of places rate (step places rate old.state call).1 (checks burst rest))) first
-    ∙ ap (λ (ls : List (List ℕ)). lines ++ text ∷ ls) later
-    ∙ sym (append_assoc lines (text ∷ []) _)
+-- ---- one key
+
+-- a key that is too long is passed over
+pub long_reply : (job : OneJob) (s : ReqState) (line : KeyLine) → 65535 < length line.key → reply_to job s line ≡ None
+long_reply job s line long = ap (λ b. cond b None (Some (answer_of s (check_of job line)))) (lt-ltb 65535 (length line.key) long)
+
+pub long_after : (job : OneJob) (s : ReqState) (line : KeyLine) → 65535 < length line.key → after_key job s line ≡ s
+long_after job s line long = ap (λ b. cond b s (zone_after s (check_of job line))) (lt-ltb 65535 (length line.key) long)
+
+-- another one is checked
+pub short_reply : (job : OneJob) (s : ReqState) (line : KeyLine) → length line.key ≤ 65535 → reply_to job s line ≡ Some (answer_of s (check_of job line))
+short_reply job s line short = ap (λ b. cond b None (Some (answer_of s (check_of job line)))) (le-ltb 65535 (length line.key) short)
+
+pub short_after : (job : OneJob) (s : ReqState) (line : KeyLine) → length line.key ≤ 65535 → after_key job s line ≡ zone_after s (check_of job line)
+short_after job s line short = ap (λ b. cond b s (zone_after s (check_of job line))) (le-ltb 65535 (length line.key) short)
+
+-- ---- the text
+
+-- the text has one line more
+pub text_more : (job : OneJob) (n : ℕ) (s : ReqState) (line : KeyLine) (lines : List KeyLine) (text old new : List ℕ) (reply : Option ReqReply)
+    → text ≡ old ++ concat (key_lines job n s (line ∷ lines)) → reply ≡ reply_to job s line → new ≡ old ++ key_line n job.rate reply
+    → text ≡ new ++ concat (key_lines job (n + 1) (after_key job s line) lines)
+text_more job n s line lines text old new reply was is grew =
+    let later = concat (key_lines job (n + 1) (after_key job s line) lines) in
+    was ∙ ap (λ r. old ++ (key_line n job.rate r ++ later)) (sym is) ∙ sym (append_assoc old (key_line n job.rate reply) later) ∙ ap (λ (t : List ℕ). t ++ later) (sym grew)

@@ -59,8 +59,8 @@ read_stops name before after next text (Refused refusal) held stops = (read_ends
 read_stops name before after next text ReadFault held unread = record { name = unread.name; named = read_reaches before.contents name next text unread.name held unread.named; rose = unread.rose }
 read_stops name before after next text NoMemory held calm = calm
 
-read_gives : (name : List ℕ) (before after : Files) (next : List ℕ → Plan) (text : List ℕ) (prepared : Result (Vec (List ℕ) Global) Stop) → IsTextOf (before.contents name) text → Prepares (next text) before after prepared → Prepares (reads name (in_limit next)) before after prepared
-read_gives name before after next text (Ok lines) held went =
+read_gives : (name : List ℕ) (before after : Files) (next : List ℕ → Plan) (text : List ℕ) (prepared : Result (List ℕ) Stop) → IsTextOf (before.contents name) text → Prepares (next text) before after prepared → Prepares (reads name (in_limit next)) before after prepared
+read_gives name before after next text (Ok written_text) held went =
     let prints = went.gives.0 in
     record {
       files = went.files;
@@ -75,7 +75,7 @@ same_files before after files calm =
     ap (λ c. made c after.faults) (fun_ext files.kept) ∙ ap (made before.contents) (fun_ext calm)
 
 -- a plan that reads a text goes on by it
-pub read_prepares : (name : List ℕ) (before between after : Files) (next : List ℕ → Plan) (text : Vec ℕ Global) (prepared : Result (Vec (List ℕ) Global) Stop) → ReadsText name before between (Ok text) → Prepares (next text.items) between after prepared → Prepares (reads name (in_limit next)) before after prepared
+pub read_prepares : (name : List ℕ) (before between after : Files) (next : List ℕ → Plan) (text : Vec ℕ Global) (prepared : Result (List ℕ) Stop) → ReadsText name before between (Ok text) → Prepares (next text.items) between after prepared → Prepares (reads name (in_limit next)) before after prepared
 read_prepares name before between after next text prepared read went =
     let same = same_files before between read.files read.gives.1 in
     read_gives name before after next text.items prepared read.gives.0 (subst (λ (f : Files). Prepares (next text.items) f after prepared) same went)

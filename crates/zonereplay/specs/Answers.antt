@@ -1,9 +1,8 @@
 -- What a status says, and all that a command promises of its plan.
 use Rattle.std.specs.Prelude.{ℕ, ◌≡◌, ◌≤◌, ◌⊎◌, List}
-use Rattle.std.specs.List.{concat}
 use Rattle.zone_outside.specs.Faults.{Rose}
 use Rattle.zonereplay.specs.declared.status.Status.{Status}
-use Rattle.zonereplay.specs.declared.status.Status.TheVariants.{Done, Usage, LogFault, ReadFault, WriteFault, TooLong, NoMemory}
+use Rattle.zonereplay.specs.declared.status.Status.TheVariants.{Done, Usage, ConfigFault, LogFault, ReadFault, WriteFault, TooLong, NoMemory}
 use Rattle.zonereplay.specs.declared.stop.Refusal.{Refusal}
 use Rattle.zonereplay.specs.declared.stop.Stop.{Stop}
 use Rattle.zonereplay.specs.declared.stop.Stop.TheVariants as stop
@@ -34,20 +33,20 @@ Stops plan before after stop.NoMemory = FilesCalm before after
 pub record Written (plan : Plan) (before after : Devices) : Type 0 where
   pub told : Told
   pub ends : Ends before.files.contents plan (written told)
-  pub lines : List (List ℕ)
-  pub shown : Shows told lines
+  pub text : List ℕ
+  pub shown : Shows told text
   pub files : FilesCalm before.files after.files
-  pub out : TakesWhole before.out after.out (concat lines)
+  pub out : TakesWhole before.out after.out text
   pub err : TakesNone before.err after.err
 
 -- a write of the text failed
 pub record OutFault (plan : Plan) (before after : Devices) : Type 0 where
   pub told : Told
   pub ends : Ends before.files.contents plan (written told)
-  pub lines : List (List ℕ)
-  pub shown : Shows told lines
+  pub text : List ℕ
+  pub shown : Shows told text
   pub files : FilesCalm before.files after.files
-  pub out : TakesPart before.out after.out (concat lines)
+  pub out : TakesPart before.out after.out text
   pub err : Tries before.err after.err write_fault
 
 -- the plan stopped, and its line was written
@@ -75,6 +74,7 @@ pub record WantOfMemory (before after : Devices) : Type 0 where
 abbrev pub Says : Plan → Devices → Devices → Status → Type 0
 Says plan before after Done = Written plan before after
 Says plan before after Usage = Stopped plan before after Usage
+Says plan before after ConfigFault = Stopped plan before after ConfigFault
 Says plan before after LogFault = Stopped plan before after LogFault
 Says plan before after ReadFault = Stopped plan before after ReadFault
 Says plan before after TooLong = Stopped plan before after TooLong

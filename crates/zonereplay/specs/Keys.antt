@@ -1,5 +1,5 @@
 -- The log of keys: lines `MOMENT KEY`, each ended by a line feed.
-use Rattle.std.specs.Prelude.{ℕ, ◌+◌, ◌-◌, ◌^◌, ◌&&◌, ◌==◌, nat_lt, nat_le, if◌then◌else◌, List, [], ◌∷◌, length, Option, Some, None, Result, Ok, Err}
+use Rattle.std.specs.Prelude.{ℕ, ◌+◌, ◌-◌, ◌^◌, ◌==◌, nat_lt, if◌then◌else◌, List, [], ◌∷◌, length, Option, Some, None, Result, Ok, Err}
 use Rattle.std.specs.List.{slice_split}
 use Rattle.zone_outside.specs.Numbers.{is_empty, number_of}
 use Rattle.zone_outside.specs.Coded.{decoded}
@@ -14,13 +14,14 @@ pub record Fault : Type 0 where
 abbrev pub parts : ℕ → List ℕ → List (List ℕ)
 parts separator text = slice_split (λ c. c == separator) text
 
--- 1 to 48 bytes, coded
-abbrev pub short_key : Option (List ℕ) → Option (List ℕ)
-short_key None = None
-short_key (Some key) = if nat_le 1 (length key) && nat_le (length key) 48 then Some key else None
+-- a key has a byte
+abbrev pub some_key : Option (List ℕ) → Option (List ℕ)
+some_key None = None
+some_key (Some key) = if is_empty key then None else Some key
 
+-- the key that a word spells
 abbrev pub key_of : List ℕ → Option (List ℕ)
-key_of word = short_key (decoded word)
+key_of word = some_key (decoded word)
 
 -- a line is at an end after these words, or has one too many
 abbrev pub ended : KeyLine → List (List ℕ) → Result KeyLine ℕ

@@ -2,6 +2,7 @@ pub mod Words
 pub mod Keys
 pub mod Reading
 pub mod OneText
+pub mod Checking
 pub mod Statuses
 pub mod Stops
 pub mod Told

@@ -1,19 +1,17 @@
 -- The text of `one`: a line for each key of the log.
-use Rattle.std.specs.Prelude.{ℕ, ◌+◌, ◌/◌, ◌%◌, true, List, [], ◌∷◌, ◌++◌, map, codes, decimal}
+use Rattle.std.specs.Prelude.{ℕ, ◌+◌, Bool, true, nat_lt, if◌then◌else◌, List, [], ◌∷◌, ◌++◌, length, Option, None, Some, codes, decimal}
+use Rattle.std.specs.List.{concat}
 use Rattle.req_zone.specs.declared.rules.Allowed.TheVariants.{Above}
 use Rattle.req_zone.specs.declared.calls.ReqReply.{ReqReply}
 use Rattle.req_zone.specs.declared.calls.ReqReply.TheVariants.{Pass, Busy, NoRoom}
 use Rattle.req_zone.specs.Amount.{delay_of}
 use Rattle.req_zone.specs.declared.calls.ReqCall.{ReqCall}
 use Rattle.req_zone.specs.declared.calls.ReqCall.TheVariants.{Check}
-use Rattle.req_zone.specs.Step.{replies_of}
-use Rattle.req_zone.specs.Counted.{places, opened}
+use Rattle.req_zone.specs.declared.state.ReqState.{ReqState}
+use Rattle.req_zone.specs.Object.{opened_zone, answer_of, zone_after}
+use Rattle.decision_text.specs.Amounts.{thousandths}
 use Rattle.zonereplay.specs.declared.keys.KeyLine.{KeyLine}
 use Rattle.zonereplay.specs.Words.{OneJob}
-
--- thousandths: the whole part, a dot and three digits
-abbrev pub thousandths : ℕ → List ℕ
-thousandths n = decimal (n / 1000) ++ 46 ∷ (48 + n / 100 % 10) ∷ (48 + n / 10 % 10) ∷ (48 + n % 10) ∷ []
 
 -- the excess that a request is delayed for
 abbrev pub delayed_excess : ReqReply → ℕ
@@ -27,19 +25,42 @@ reply_words rate (Busy excess) = codes " busy " ++ thousandths excess
 reply_words rate (NoRoom evicted) = codes " noroom " ++ decimal evicted
 reply_words rate reply = []
 
+-- what is said of a key: what its check says, or that it was too long to be checked
+abbrev pub key_words : ℕ → Option ReqReply → List ℕ
+key_words rate None = codes " skip"
+key_words rate (Some reply) = reply_words rate reply
+
 -- the line of the n-th key
-abbrev pub reply_line : ℕ → ℕ → ReqReply → List ℕ
-reply_line n rate reply = decimal n ++ reply_words rate reply ++ codes "\n"
+abbrev pub key_line : ℕ → ℕ → Option ReqReply → List ℕ
+key_line n rate reply = decimal n ++ key_words rate reply ++ codes "\n"
 
--- the lines of replies, numbered from n on
-abbrev pub reply_lines : ℕ → ℕ → List ReqReply → List (List ℕ)
-reply_lines n rate [] = []
-reply_lines n rate (reply ∷ replies) = reply_line n rate reply ∷ reply_lines (n + 1) rate replies
+-- ---- a log
 
--- a check of each key against the burst, as the last limit
-abbrev pub checks : ℕ → List KeyLine → List ReqCall
-checks burst keys = map (λ (line : KeyLine). Check line.key line.moment burst true) keys
+-- a key is checked against the burst, as the last limit
+abbrev pub check_of : OneJob → KeyLine → ReqCall
+check_of job line = Check line.key line.moment job.burst true
 
--- the lines of `one`: what a fresh zone answers to the log's keys, in order
-abbrev pub one_lines : OneJob → List KeyLine → List (List ℕ)
-one_lines job keys = reply_lines 1 job.rate (replies_of places job.rate (opened job.rate job.bytes).state (checks job.burst keys))
+-- the key has more bytes than a zone takes
+abbrev pub is_long : KeyLine → Bool
+is_long line = nat_lt 65535 (length line.key)
+
+-- what a zone answers to the check of a key; none where the key is too long, which is passed over
+abbrev pub reply_to : OneJob → ReqState → KeyLine → Option ReqReply
+reply_to job s line = if is_long line then None else Some (answer_of s (check_of job line))
+
+-- the zone afterwards
+abbrev pub after_key : OneJob → ReqState → KeyLine → ReqState
+after_key job s line = if is_long line then s else zone_after s (check_of job line)
+
+-- the lines of the keys from the n-th on, in a zone of this state
+abbrev pub key_lines : OneJob → ℕ → ReqState → List KeyLine → List (List ℕ)
+key_lines job n s [] = []
+key_lines job n s (line ∷ lines) = key_line n job.rate (reply_to job s line) ∷ key_lines job (n + 1) (after_key job s line) lines
+
+-- the zone of `one`, which was just opened
+abbrev pub zone_of : OneJob → ReqState
+zone_of job = opened_zone job.rate (codes "one") job.bytes
+
+-- the text of `one`: a line for each key of the log, in order
+abbrev pub one_text : OneJob → List KeyLine → List ℕ
+one_text job keys = concat (key_lines job 1 (zone_of job) keys)

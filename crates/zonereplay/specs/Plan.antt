@@ -1,23 +1,54 @@
 -- What a command does, by its words and by the texts that it reads.
 use Rattle.std.specs.Prelude.{ℕ, ◌≡◌, nat_lt, List, length, Option, Some, None, Result, Ok, Err, if◌then◌else◌, ◌⊎◌}
+use Rattle.directive_text.specs.declared.tree.Directive.{Directive}
+use Rattle.directive_text.specs.Spelling.{Spells}
+use Rattle.directive_text.specs.Faults.{HasFault}
+use Rattle.zone_config.specs.declared.data.Config.{Config}
+use Rattle.config_rules.specs.Rules.{fault_of}
+use Rattle.zone_config.specs.Reading.{GivesConfig}
+use Rattle.decision_text.specs.CheckText.{check_text}
 use Rattle.zonereplay.specs.declared.keys.KeyLine.{KeyLine}
 use Rattle.zonereplay.specs.declared.stop.Refusal.{Refusal}
-use Rattle.zonereplay.specs.declared.stop.Refusal.TheVariants.{Usage, TooLong, Log}
+use Rattle.zonereplay.specs.declared.stop.Refusal.TheVariants.{Usage, TooLong, Text, Rule, Log}
 use Rattle.zonereplay.specs.Words.{Command, OneJob, command_of}
-use Rattle.zonereplay.specs.Words.Command.{one}
+use Rattle.zonereplay.specs.Words.Command.{one, check}
 use Rattle.zonereplay.specs.Keys.{Fault, keys_of}
-use Rattle.zonereplay.specs.OneText.{one_lines}
+use Rattle.zonereplay.specs.OneText.{one_text}
 use Rattle.zonereplay.specs.Told.{Told}
-use Rattle.zonereplay.specs.Told.Told.{these}
+use Rattle.zonereplay.specs.Told.Told.{exactly}
 
 -- the steps that are left
 pub data Plan : Type 0 where
   -- it refuses the words or a text
   refuses : (refusal : Refusal) → Plan
-  -- it writes lines that show this
+  -- it writes a text that shows this
   writes : (told : Told) → Plan
   -- it reads the file of this name, and goes on by its text
   reads : (name : List ℕ) (next : List ℕ → Plan) → Plan
+  -- it reads the configuration of a text, and refuses the text by its first fault or goes on by what the directives say
+  configures : (text : List ℕ) (next : Config → Plan) → Plan
+
+-- ---- configurations
+
+-- the text spells directives that give this configuration
+pub record SaysConfig (text : List ℕ) (config : Config) : Type 0 where
+  pub directives : List Directive
+  pub spelled : Spells text directives
+  pub given : GivesConfig directives config
+
+-- the text spells directives of which the one at this line is the first to break a rule, and this is its first rule that is broken
+pub record BreaksRule (text : List ℕ) (line rule : ℕ) : Type 0 where
+  pub directives : List Directive
+  pub spelled : Spells text directives
+  pub broken : fault_of directives ≡ Some (record { line = line; rule = rule })
+
+-- what is wrong with the text of a configuration
+abbrev pub IsWrong : List ℕ → Refusal → Type 0
+IsWrong text (Text line kind) = HasFault text line kind
+IsWrong text (Rule line rule) = BreaksRule text line rule
+IsWrong text Usage = ⊥
+IsWrong text TooLong = ⊥
+IsWrong text (Log line kind) = ⊥
 
 -- how a plan may end
 pub data End : Type 0 where
@@ -36,17 +67,26 @@ in_limit next text = if nat_lt text_limit (length text) then refuses TooLong els
 
 -- the keys are replayed, or the log's first fault is told
 abbrev pub one_run : OneJob → Result (List KeyLine) Fault → Plan
-one_run job (Ok keys) = writes (these (one_lines job keys))
+one_run job (Ok keys) = writes (exactly (one_text job keys))
 one_run job (Err fault) = refuses (Log fault.line fault.kind)
 
 -- `one RATE BURST SIZE LOG`
 abbrev pub one_plan : OneJob → List ℕ → Plan
 one_plan job log = reads log (in_limit (λ text. one_run job (keys_of text)))
 
+-- what the configuration of a text says is written
+abbrev pub check_run : List ℕ → Plan
+check_run text = configures text (λ config. writes (exactly (check_text config)))
+
+-- `check CONFIG`
+abbrev pub check_plan : List ℕ → Plan
+check_plan name = reads name (in_limit check_run)
+
 -- words of no form are refused
 abbrev pub plan_for : Option Command → Plan
 plan_for None = refuses Usage
 plan_for (Some (one job log)) = one_plan job log
+plan_for (Some (check config)) = check_plan config
 
 abbrev pub plan_of : List (List ℕ) → Plan
 plan_of words = plan_for (command_of words)
@@ -63,9 +103,13 @@ abbrev pub Ends : (List ℕ → Option (List ℕ)) → Plan → End → Type 0
 Ends contents (refuses refusal) end = end ≡ refused refusal
 Ends contents (writes told) end = end ≡ written told
 Ends contents (reads name next) end = (text : List ℕ) × MayHold (contents name) text × Ends contents (next text) end
+Ends contents (configures text next) end =
+    ((config : Config) × SaysConfig text config × Ends contents (next config) end)
+    ⊎ ((refusal : Refusal) × IsWrong text refusal × (end ≡ refused refusal))
 
 -- the plan comes to reading this name
 abbrev pub Reaches : (List ℕ → Option (List ℕ)) → Plan → List ℕ → Type 0
 Reaches contents (refuses refusal) name = ⊥
 Reaches contents (writes told) name = ⊥
+Reaches contents (configures text next) name = (config : Config) × SaysConfig text config × Reaches contents (next config) name
 Reaches contents (reads first next) name = (name ≡ first) ⊎ ((text : List ℕ) × MayHold (contents first) text × Reaches contents (next text) name)

@@ -1,5 +1,5 @@
 -- What the calls that read a log of keys answer. Want of memory says nothing.
-use Rattle.std.specs.Prelude.{ℕ, ◌≡◌, ◌<◌, ◌≤◌, ◌^◌, length, List, Some, None, Result, Ok, Err}
+use Rattle.std.specs.Prelude.{ℕ, ◌≡◌, ◌<◌, ◌^◌, length, List, Some, None, Result, Ok, Err}
 use Rattle.std.specs.declared.vec.Vec.{Vec}
 use Rattle.std.specs.declared.alloc.Global.{Global}
 use Rattle.zone_outside.specs.declared.coded.DecodeFault.{DecodeFault}
@@ -11,9 +11,9 @@ use Rattle.zonereplay.specs.declared.keys.LogFault.{LogFault}
 use Rattle.zonereplay.specs.declared.keys.LogFault.TheVariants as in_log
 use Rattle.zonereplay.specs.Keys.{parts, with_moment, key_of, key_line, keys_of}
 
--- a moment below 2^42 and a key of 1 to 48 bytes
+-- a moment below 2^42 and a key with a byte
 abbrev pub IsInLimits : KeyLine → Type 0
-IsInLimits line = (line.moment < 2 ^ 42) × (0 < length line.key) × (length line.key ≤ 48)
+IsInLimits line = (line.moment < 2 ^ 42) × (0 < length line.key)
 
 -- the key that a word spells, or that it spells none
 abbrev pub GivesKey : Result (List ℕ) DecodeFault → List ℕ → Type 0

@@ -1,16 +1,17 @@
 -- The stages of a command: it reads its texts, prepares all that it writes, and concludes.
 use Rattle.std.specs.Prelude.{ℕ, ◌≡◌, ◌≤◌, ◌⊎◌, List, [], length, Option, Result, Ok, Err, MatchResult}
-use Rattle.std.specs.List.{concat}
 use Rattle.std.specs.declared.vec.Vec.{Vec}
 use Rattle.std.specs.declared.alloc.Global.{Global}
+use Rattle.zone_config.specs.declared.data.Config.{Config}
+use Rattle.zone_config.specs.Conditions.{AreZones}
 use Rattle.zonereplay.specs.declared.status.Status.{Status}
-use Rattle.zonereplay.specs.declared.status.Status.TheVariants.{Done, LogFault, WriteFault, NoMemory}
-use Rattle.zonereplay.specs.declared.stop.Refusal.TheVariants.{Log}
+use Rattle.zonereplay.specs.declared.status.Status.TheVariants.{Done, ConfigFault, LogFault, WriteFault, NoMemory}
+use Rattle.zonereplay.specs.declared.stop.Refusal.TheVariants.{Text, Rule, Log}
 use Rattle.zonereplay.specs.declared.stop.Stop.{Stop}
 use Rattle.zonereplay.specs.declared.stop.Stop.TheVariants as stop
 use Rattle.zonereplay.specs.Stops.{status_of, line_of}
 use Rattle.zonereplay.specs.Told.{Told, Shows}
-use Rattle.zonereplay.specs.Plan.{Plan, Ends, MayHold, in_limit, text_limit}
+use Rattle.zonereplay.specs.Plan.{Plan, SaysConfig, IsWrong, Ends, MayHold, in_limit, text_limit}
 use Rattle.zonereplay.specs.Plan.Plan.{reads}
 use Rattle.zonereplay.specs.Plan.End.{written}
 use Rattle.zonereplay.specs.Devices.{Files, Taken, FilesCalm, TakesWhole, TakesNone, TakesPart, TakesFault, Tries, write_fault}
@@ -34,18 +35,25 @@ pub record ReadsText (name : List ℕ) (before after : Files) (read : Result (Ve
   pub files : FilesKept before after
   pub gives : MatchResult read (λ text. IsTextOf (before.contents name) text.items × FilesCalm before after) (λ why. (next : List ℕ → Plan) → Stops (reads name (in_limit next)) before after why)
 
+-- a configuration was read: what the directives of the text say, whose zones are in their limits; or what is wrong with it; or there was no memory
+abbrev pub Configures : List ℕ → Result Config Stop → Type 0
+Configures text (Ok config) = SaysConfig text config × AreZones config.zones
+Configures text (Err (stop.Refused refusal)) = IsWrong text refusal
+Configures text (Err stop.ReadFault) = ⊥
+Configures text (Err stop.NoMemory) = Unit {0}
+
 -- ---- preparing
 
--- lines that show what the plan writes
-pub record Prints (contents : List ℕ → Option (List ℕ)) (plan : Plan) (lines : List (List ℕ)) : Type 0 where
+-- a text that shows what the plan writes
+pub record Prints (contents : List ℕ → Option (List ℕ)) (plan : Plan) (text : List ℕ) : Type 0 where
   pub told : Told
   pub ends : Ends contents plan (written told)
-  pub shown : Shows told lines
+  pub shown : Shows told text
 
--- a plan was followed to its end: the lines that it writes, or why it stops
-pub record Prepares (plan : Plan) (before after : Files) (prepared : Result (Vec (List ℕ) Global) Stop) : Type 0 where
+-- a plan was followed to its end: the text that it writes, or why it stops
+pub record Prepares (plan : Plan) (before after : Files) (prepared : Result (List ℕ) Stop) : Type 0 where
   pub files : FilesKept before after
-  pub gives : MatchResult prepared (λ lines. Prints before.contents plan lines.items × FilesCalm before after) (Stops plan before after)
+  pub gives : MatchResult prepared (λ text. Prints before.contents plan text × FilesCalm before after) (Stops plan before after)
 
 -- ---- concluding
 
@@ -57,21 +65,27 @@ LineTold status line answer before after = ((answer ≡ status) × TakesWhole be
 abbrev pub Wants : Status → Taken → Taken → Type 0
 Wants answer before after = (answer ≡ NoMemory) × TakesNone before after
 
--- what is told and answered of a stop; the line of a log's fault takes memory
+-- a line that takes memory: it is told, or there was none
+abbrev pub NumbersTold : Status → List ℕ → Status → Taken → Taken → Type 0
+NumbersTold status line answer before after = LineTold status line answer before after ⊎ Wants answer before after
+
+-- what is told and answered of a stop; a line with numbers takes memory
 abbrev pub StopTold : Stop → Status → Taken → Taken → Type 0
 StopTold stop.NoMemory answer before after = Wants answer before after
-StopTold (stop.Refused (Log line kind)) answer before after = LineTold LogFault (line_of (stop.Refused (Log line kind))) answer before after ⊎ Wants answer before after
+StopTold (stop.Refused (Text line kind)) answer before after = NumbersTold ConfigFault (line_of (stop.Refused (Text line kind))) answer before after
+StopTold (stop.Refused (Rule line rule)) answer before after = NumbersTold ConfigFault (line_of (stop.Refused (Rule line rule))) answer before after
+StopTold (stop.Refused (Log line kind)) answer before after = NumbersTold LogFault (line_of (stop.Refused (Log line kind))) answer before after
 StopTold why answer before after = LineTold (status_of why) (line_of why) answer before after
 
--- the lines were written; or a write failed, and standard error was told so, if it took that
-abbrev pub Wrote : List (List ℕ) → Status → Taken → Taken → Taken → Taken → Type 0
-Wrote lines answer out out_after err err_after =
-    ((answer ≡ Done) × TakesWhole out out_after (concat lines) × TakesNone err err_after)
-    ⊎ ((answer ≡ WriteFault) × TakesPart out out_after (concat lines) × Tries err err_after write_fault)
+-- the text was written; or a write failed, and standard error was told so, if it took that
+abbrev pub Wrote : List ℕ → Status → Taken → Taken → Taken → Taken → Type 0
+Wrote text answer out out_after err err_after =
+    ((answer ≡ Done) × TakesWhole out out_after text × TakesNone err err_after)
+    ⊎ ((answer ≡ WriteFault) × TakesPart out out_after text × Tries err err_after write_fault)
 
--- the lines that were prepared were written, or the stop was told
-abbrev pub Concludes : Result (Vec (List ℕ) Global) Stop → Status → Taken → Taken → Taken → Taken → Type 0
-Concludes (Ok lines) answer out out_after err err_after = Wrote lines.items answer out out_after err err_after
+-- the text that was prepared was written, or the stop was told
+abbrev pub Concludes : Result (List ℕ) Stop → Status → Taken → Taken → Taken → Taken → Type 0
+Concludes (Ok text) answer out out_after err err_after = Wrote text answer out out_after err err_after
 Concludes (Err why) answer out out_after err err_after = TakesNone out out_after × StopTold why answer err err_after
 
 -- ---- closing

@@ -59,6 +59,8 @@ pub record OneJob : Type 0 where
 pub data Command : Type 0 where
   -- a log of keys, by its name, is replayed in one zone
   one : (job : OneJob) (log : List ℕ) → Command
+  -- a configuration is read, by its name
+  check : (config : List ℕ) → Command
 
 -- the job, where each of its numbers was read
 abbrev pub one_job : Option ℕ → Option ℕ → Option ℕ → List ℕ → Option Command
@@ -71,6 +73,16 @@ one_of (command ∷ rate ∷ burst ∷ size ∷ log ∷ []) =
     if bytes_eq command (codes "one") then one_job (rate_of rate) (burst_of burst) (size_of size) log else None
 one_of words = None
 
+-- `check CONFIG`
+abbrev pub check_of : List (List ℕ) → Option Command
+check_of (command ∷ config ∷ []) = if bytes_eq command (codes "check") then Some (check config) else None
+check_of words = None
+
+-- the first of two that is there
+abbrev pub first_form : Option Command → Option Command → Option Command
+first_form None second = second
+first_form (Some command) second = Some command
+
 -- what the words ask for, none where they are of none of the forms that are built
 abbrev pub command_of : List (List ℕ) → Option Command
-command_of words = one_of words
+command_of words = first_form (one_of words) (check_of words)

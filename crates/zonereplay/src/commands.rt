@@ -1,22 +1,22 @@
 ghost use Rattle.std.specs.Prelude.{IsSome};
-ghost use Rattle.zonereplay.specs.Words.{one_of};
+ghost use Rattle.zonereplay.specs.Words.{one_of, check_of};
 ghost use Rattle.zonereplay.specs.Plan.{plan_of};
 ghost use Rattle.zonereplay.specs.Answers.{Does};
 ghost use Rattle.zonereplay.specs.Stages.{Concludes};
 
 use crate::output::write_lines;
-use crate::prepare::prepare_one;
+use crate::prepare::{prepare_check, prepare_one};
 use crate::status::Status;
 use crate::stop::Stop;
 use crate::tell::{tell_stop, tell_write_fault};
-use crate::words::read_one;
+use crate::words::{read_check, read_one};
 use std::alloc::Global;
 use zone_outside::{Shelf, Sink, Text};
 
-/// Writes the lines that a command prepared, or tells why it stopped.
+/// Writes the text that a command prepared, or tells why it stopped.
 fn conclude<O: Sink, E: Sink>(
     alloc: Global,
-    prepared: Result<Vec<Text>, Stop>,
+    prepared: Result<Text, Stop>,
     out: &mut O,
     err: &mut E,
 ) -> Status
@@ -25,7 +25,7 @@ fn conclude<O: Sink, E: Sink>(
         (record { text = E.taken err.old; faults = E.faults err.old }) (record { text = E.taken err.new; faults = E.faults err.new }) }
 {
     match prepared {
-        Ok(lines) => match write_lines(out, &lines) {
+        Ok(text) => match write_lines(out, text.bytes()) {
             Ok(()) => Status::Done,
             Err(_) => tell_write_fault(err),
         },
@@ -60,5 +60,34 @@ pub fn one_command<F: Shelf, O: Sink, E: Sink>(
         unreachable!()
     };
     let prepared = prepare_one(alloc, job, log, files);
+    conclude(alloc, prepared, out, err).code()
+}
+
+/// Reads a configuration, and writes what it says of its zones, upstreams and limits. The words are `check CONFIG`.
+pub fn check_command<F: Shelf, O: Sink, E: Sink>(
+    alloc: Global,
+    words: &[Text],
+    files: &mut F,
+    out: &mut O,
+    err: &mut E,
+) -> u8
+    requires { IsSome (check_of words.now) }
+    ensures { Does (plan_of words.now)
+        (record {
+          files = record { contents = F.contents files.old; faults = F.faults files.old };
+          out = record { text = O.taken out.old; faults = O.faults out.old };
+          err = record { text = E.taken err.old; faults = E.faults err.old };
+        })
+        (record {
+          files = record { contents = F.contents files.new; faults = F.faults files.new };
+          out = record { text = O.taken out.new; faults = O.faults out.new };
+          err = record { text = E.taken err.new; faults = E.faults err.new };
+        })
+        result }
+{
+    let Some(name) = read_check(words) else {
+        unreachable!()
+    };
+    let prepared = prepare_check(alloc, name, files);
     conclude(alloc, prepared, out, err).code()
 }

@@ -13,15 +13,12 @@ const MOST_MOMENT: u64 = 4_398_046_511_103;
 /// The most lines that a log may have.
 const MOST_LINES: u64 = 131_072;
 
-/// The most bytes of a key.
-const MOST_KEY: usize = 48;
-
 /// A line of a log of keys: a moment in ms and a key.
 #[derive(Debug, Drop)]
 pub struct KeyLine {
     /// When the key is checked, in ms, below 2^42.
     pub moment: u64,
-    /// The decoded key, of 1 to 48 bytes.
+    /// The decoded key, of one byte or more.
     pub key: Key,
 }
 
@@ -55,19 +52,16 @@ impl<T: Drop> From<AllocFailed<T>> for LogFault {
     }
 }
 
-/// The key that a word spells: 1 to 48 bytes of coded text.
+/// The key that a word spells: coded text of one byte or more.
 fn read_key(alloc: Global, word: &[u8]) -> Result<Key, DecodeFault>
     ensures value { GivesKey result word.now }
-    ensures limits { IfOk result (λ key. (0 < length key) × (length key ≤ 48)) }
+    ensures limits { IfOk result (λ key. 0 < length key) }
 {
     let bytes = decode(alloc, word)?;
-    if bytes.is_empty() || bytes.len() > MOST_KEY {
+    if bytes.is_empty() {
         return Err(DecodeFault::Badly);
     }
-    match Key::of(alloc, &bytes) {
-        Ok(key) => Ok(key),
-        Err(_) => Err(DecodeFault::NoMemory),
-    }
+    Ok(Key::from_vec(bytes))
 }
 
 /// What the words after the moment say.
@@ -111,6 +105,7 @@ fn read_line(alloc: Global, line: &[u8]) -> Result<KeyLine, LineFault>
 pub fn read_keys(alloc: Global, text: &[u8]) -> Result<Vec<KeyLine>, LogFault>
     ensures value { GivesKeys result text.now }
     ensures limits { IfOk result (λ keys. All IsInLimits keys.items) }
+    ensures few { IfOk result (λ keys. length keys.items ≤ 131072) }
 {
     let mut keys = Vec::new(alloc);
     let mut rest = text;

@@ -1,23 +1,35 @@
-ghost use Rattle.std.specs.Prelude.{◌≡◌, IfOk};
-ghost use Rattle.req_zone.specs.Counted.{opened};
+ghost use Rattle.std.specs.Prelude.{◌≡◌, ◌+◌, ◌<◌, ◌^◌, ℕ, IfOk, IfSome, length, ◌≤◌};
+ghost use Rattle.req_zone.specs.Amount.{greatest_burst};
+ghost use Rattle.zonereplay.specs.Words.{OneJob};
 ghost use Rattle.std.specs.List.{All};
+ghost use Rattle.req_zone.specs.declared.state.ReqState.{ReqState};
+ghost use Rattle.req_zone.specs.Object.{IsOpened};
+ghost use Rattle.req_zone.specs.Lays.{Lays};
 ghost use Rattle.zonereplay.specs.Jobs.{asked};
-ghost use Rattle.zonereplay.specs.OneText.{one_lines};
+ghost use Rattle.zonereplay.specs.OneText.{delayed_excess, reply_to, after_key, zone_of, one_text};
+ghost use Rattle.zonereplay.specs.Checking.{HasAnswered};
 ghost use Rattle.zonereplay.specs.Reading.{IsInLimits};
 
 use crate::job::Job;
 use crate::keys::KeyLine;
-use crate::text::line_of;
-use req_zone::{OpenFault, PlacedZone, ReqSpec};
+use crate::text::push_line;
+use req_zone::{OpenFault, ReqCall, ReqReply, ReqSpec, ReqZone};
 use std::alloc::Global;
+use zone_object::apply_uncounted;
 use zone_outside::{NoMemory, Text};
 
 /// The binary logarithm of a page's size.
 const PAGE_SHIFT: u32 = 12;
 
+/// The most bytes of a key that a zone takes.
+const MOST_KEY: u64 = 65_535;
+
+/// The bytes that a line of `one` takes, but where its numbers are large.
+const LINE_BYTES: usize = 24;
+
 /// The request zone `one` of a job, without entries.
-fn open_zone(alloc: Global, job: Job) -> Result<PlacedZone, NoMemory>
-    ensures { IfOk result (λ zone. zone ≡ opened job.rate job.bytes) }
+fn open_zone(alloc: Global, job: Job) -> Result<ReqZone, NoMemory>
+    ensures { IfOk result (λ zone. Lays zone (zone_of (asked job)) × IsOpened (zone_of (asked job))) }
 {
     let spec = ReqSpec {
         name: Text::of(alloc, b"one")?,
@@ -25,25 +37,48 @@ fn open_zone(alloc: Global, job: Job) -> Result<PlacedZone, NoMemory>
         page_shift: PAGE_SHIFT,
         rate: job.rate,
     };
-    match PlacedZone::open(alloc, &spec) {
+    match ReqZone::open(alloc, &spec) {
         Ok(zone) => Ok(zone),
         Err(OpenFault::NoMemory) => Err(NoMemory),
         Err(OpenFault::TooSmall) => unreachable!(),
     }
 }
 
-/// The lines of `one` for the keys of a log, which are checked one after another in a fresh zone.
-pub(crate) fn lines_of(alloc: Global, job: Job, keys: Vec<KeyLine>) -> Result<Vec<Text>, NoMemory>
-    requires { All IsInLimits keys.items }
-    ensures { IfOk result (λ lines. lines.items ≡ one_lines (asked job) keys.items) }
+/// What the zone answers to the check of a key, as the last limit. None, and no check, where the key has more bytes
+/// than a zone takes.
+fn check(zone: &mut ReqZone, burst: u64, line: KeyLine) -> Option<ReqReply>
+    requires known { ((job : OneJob) × (job.burst ≡ burst) × (job.burst ≤ greatest_burst)) }
+    requires limits { IsInLimits line }
+    requires answered { ((start s : ReqState) × (calls : ℕ) × HasAnswered zone.old start calls s × (calls + 1 < 2 ^ 32)) }
+    ensures bound { IfSome result (λ reply. delayed_excess reply < 2 ^ 52) }
+    ensures reply { (job : OneJob) (start s : ReqState) (calls : ℕ) → job.burst ≡ burst → HasAnswered zone.old start calls s → calls + 1 < 2 ^ 32 → result ≡ reply_to job s line }
+    ensures answered { (job : OneJob) (start s : ReqState) (calls : ℕ) → job.burst ≡ burst → HasAnswered zone.old start calls s → calls + 1 < 2 ^ 32 → HasAnswered zone.new start (calls + 1) (after_key job s line) }
+{
+    if line.key.len() > MOST_KEY {
+        return None;
+    }
+    let call = ReqCall::Check {
+        key: line.key,
+        now: line.moment,
+        burst,
+        last: true,
+    };
+    Some(apply_uncounted(zone, 0, &call))
+}
+
+/// The text of `one` for the keys of a log, which are checked one after another in a fresh zone.
+pub(crate) fn text_of(alloc: Global, job: Job, keys: Vec<KeyLine>) -> Result<Text, NoMemory>
+    requires limits { All IsInLimits keys.items }
+    requires few { length keys.items ≤ 131072 }
+    ensures { IfOk result (λ text. text ≡ one_text (asked job) keys.items) }
 {
     let mut zone = open_zone(alloc, job)?;
-    let mut lines = Vec::with_capacity(alloc, keys.len())?;
+    let mut text = Vec::with_capacity(alloc, keys.len() * LINE_BYTES)?;
     let mut number = 1u64;
     for line in keys {
-        let reply = zone.check_last(line.key, line.moment, job.burst)?;
-        lines.push(line_of(alloc, number, job.rate, reply)?)?;
+        let reply = check(&mut zone, job.burst, line);
+        push_line(&mut text, number, job.rate, reply)?;
         number += 1;
     }
-    Ok(lines)
+    Ok(Text::from_vec(text))
 }

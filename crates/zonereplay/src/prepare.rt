@@ -1,14 +1,17 @@
 ghost use Rattle.zonereplay.specs.Keys.{keys_of};
 ghost use Rattle.zonereplay.specs.Jobs.{asked};
-ghost use Rattle.zonereplay.specs.Plan.{one_plan, one_run};
+ghost use Rattle.zonereplay.specs.Plan.{one_plan, one_run, check_plan, check_run};
 ghost use Rattle.zonereplay.specs.Devices.{Files};
-ghost use Rattle.zonereplay.specs.Stages.{Prepares, ReadsText};
+ghost use Rattle.zonereplay.specs.Stages.{Configures, Prepares, ReadsText};
 
 use crate::job::Job;
 use crate::keys::{LogFault, read_keys};
-use crate::one::lines_of;
+use crate::one::text_of;
 use crate::stop::{Refusal, Stop};
+use decision_text::check_text;
+use directive_text::{TextFault, read};
 use std::alloc::Global;
+use zone_config::{Config, ConfigFault, config_of};
 use zone_outside::{ReadAnswer, Shelf, Text, read_named};
 
 /// The most bytes of a text that is read.
@@ -32,8 +35,8 @@ fn read_text<F: Shelf>(alloc: Global, files: &mut F, name: &Text) -> Result<Vec<
     }
 }
 
-/// The lines of `one` for a log's text. It leaves the files alone, whatever they are.
-fn run_log(alloc: Global, job: Job, text: &[u8]) -> Result<Vec<Text>, Stop>
+/// The text of `one` for a log's text. It leaves the files alone, whatever they are.
+fn run_log(alloc: Global, job: Job, text: &[u8]) -> Result<Text, Stop>
     ensures { (files : Files) → Prepares (one_run (asked job) (keys_of text.now)) files files result }
 {
     let keys = match read_keys(alloc, text) {
@@ -43,19 +46,19 @@ fn run_log(alloc: Global, job: Job, text: &[u8]) -> Result<Vec<Text>, Stop>
         }
         Err(LogFault::NoMemory) => return Err(Stop::NoMemory),
     };
-    match lines_of(alloc, job, keys) {
-        Ok(lines) => Ok(lines),
+    match text_of(alloc, job, keys) {
+        Ok(written) => Ok(written),
         Err(_) => Err(Stop::NoMemory),
     }
 }
 
-/// The lines of `one`, with all the memory that they take, before any of them is written.
+/// The text of `one`, with all the memory that it takes, before any of it is written.
 pub(crate) fn prepare_one<F: Shelf>(
     alloc: Global,
     job: Job,
     log: &Text,
     files: &mut F,
-) -> Result<Vec<Text>, Stop>
+) -> Result<Text, Stop>
     ensures { Prepares (one_plan (asked job) log.now)
         (record { contents = F.contents files.old; faults = F.faults files.old })
         (record { contents = F.contents files.new; faults = F.faults files.new })
@@ -63,6 +66,52 @@ pub(crate) fn prepare_one<F: Shelf>(
 {
     match read_text(alloc, files, log) {
         Ok(text) => run_log(alloc, job, &text),
+        Err(stop) => Err(stop),
+    }
+}
+
+/// The configuration of a text, or why it has none.
+fn read_config(alloc: Global, text: &[u8]) -> Result<Config, Stop>
+    ensures { Configures text.now result }
+{
+    let tree = match read(alloc, text) {
+        Ok(tree) => tree,
+        Err(TextFault::At { line, kind }) => {
+            return Err(Stop::Refused(Refusal::Text { line, kind }));
+        }
+        Err(TextFault::NoMemory) => return Err(Stop::NoMemory),
+    };
+    match config_of(alloc, &tree) {
+        Ok(config) => Ok(config),
+        Err(ConfigFault::At { line, rule }) => Err(Stop::Refused(Refusal::Rule { line, rule })),
+        Err(ConfigFault::NoMemory) => Err(Stop::NoMemory),
+    }
+}
+
+/// The text of `check` for a configuration's text. It leaves the files alone, whatever they are.
+fn run_check(alloc: Global, text: &[u8]) -> Result<Text, Stop>
+    ensures { (files : Files) → Prepares (check_run text.now) files files result }
+{
+    let config = read_config(alloc, text)?;
+    match check_text(alloc, &config) {
+        Ok(written) => Ok(written),
+        Err(_) => Err(Stop::NoMemory),
+    }
+}
+
+/// The text of `check`, with all the memory that it takes, before any of it is written.
+pub(crate) fn prepare_check<F: Shelf>(
+    alloc: Global,
+    name: &Text,
+    files: &mut F,
+) -> Result<Text, Stop>
+    ensures { Prepares (check_plan name.now)
+        (record { contents = F.contents files.old; faults = F.faults files.old })
+        (record { contents = F.contents files.new; faults = F.faults files.new })
+        result }
+{
+    match read_text(alloc, files, name) {
+        Ok(text) => run_check(alloc, &text),
         Err(stop) => Err(stop),
     }
 }

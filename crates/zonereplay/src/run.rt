@@ -3,10 +3,10 @@ ghost use Rattle.zonereplay.specs.Words.{command_of};
 ghost use Rattle.zonereplay.specs.Plan.{plan_of};
 ghost use Rattle.zonereplay.specs.Answers.{Does};
 
-use crate::commands::one_command;
+use crate::commands::{check_command, one_command};
 use crate::stop::{Refusal, Stop};
 use crate::tell::tell_stop;
-use crate::words::read_one;
+use crate::words::{read_check, read_one};
 use std::alloc::Global;
 use zone_outside::{Shelf, Sink, Text};
 
@@ -14,6 +14,7 @@ use zone_outside::{Shelf, Sink, Text};
 ///
 /// - 0: the job is done, and `out` took all its text.
 /// - 1: the words are none of the forms that are built. `err` has the usage line.
+/// - 2: the configuration has a fault. `err` has `config LINE text KIND` or `config LINE rule RULE`.
 /// - 3: the log has a fault. `err` has `log LINE KIND`.
 /// - 4: a named file could not be opened or read. `err` has `read fault`.
 /// - 5: a write failed. `err` has `write fault`, if it takes that. After a failed write to `out`, `out`
@@ -50,6 +51,9 @@ pub fn run<R, F: Shelf, O: Sink, E: Sink>(
 {
     match read_one(words) {
         Some(_) => one_command(alloc, words, files, out, err),
-        None => tell_stop(alloc, err, Stop::Refused(Refusal::Usage)).code(),
+        None => match read_check(words) {
+            Some(_) => check_command(alloc, words, files, out, err),
+            None => tell_stop(alloc, err, Stop::Refused(Refusal::Usage)).code(),
+        },
     }
 }

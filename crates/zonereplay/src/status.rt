@@ -8,6 +8,8 @@ pub enum Status {
     Done = 0,
     /// The words are none of the forms that are built.
     Usage = 1,
+    /// The configuration has a fault.
+    ConfigFault = 2,
     /// The log has a fault.
     LogFault = 3,
     /// A named file could not be opened or read.

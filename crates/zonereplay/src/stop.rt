@@ -5,6 +5,10 @@ pub enum Refusal {
     Usage,
     /// A text is longer than the limit.
     TooLong,
+    /// The directives can't be read: the line and the kind of the first fault of their text.
+    Text { line: u64, kind: u32 },
+    /// A directive breaks a rule: the line of the first one that does, and its first rule that is broken.
+    Rule { line: u64, rule: u32 },
     /// The log has a fault: its first faulty line, from 1, and the kind.
     Log { line: u64, kind: u32 },
 }

@@ -1,13 +1,11 @@
-ghost use Rattle.std.specs.Prelude.{◌≡◌, ◌++◌, OnOk, OnErr, IfOk};
-ghost use Rattle.zonereplay.specs.Stops.{line_of};
+ghost use Rattle.std.specs.Prelude.{◌≡◌, IfOk};
+ghost use Rattle.zonereplay.specs.Stops.{fault_line};
 ghost use Rattle.zonereplay.specs.Devices.{Tries, write_fault};
-ghost use Rattle.zonereplay.specs.Stages.{LineTold, StopTold};
-ghost use Rattle.zonereplay.specs.declared.stop.Refusal.TheVariants.{Log};
-ghost use Rattle.zonereplay.specs.declared.stop.Stop.TheVariants.{Refused};
+ghost use Rattle.zonereplay.specs.Stages.{LineTold, NumbersTold, StopTold};
 
 use crate::status::Status;
 use crate::stop::{Refusal, Stop};
-use crate::text::push_number;
+use decision_text::push_number;
 use std::alloc::Global;
 use zone_outside::{NoMemory, Sink, Text, write_all};
 
@@ -34,16 +32,40 @@ fn tell<E: Sink>(err: &mut E, status: Status, line: &[u8]) -> Status
     }
 }
 
-/// The line of a fault of the log.
-fn log_line(alloc: Global, line: u64, kind: u32) -> Result<Text, NoMemory>
-    ensures { IfOk result (λ text. text ≡ line_of (Refused (Log line kind))) }
+/// The line of a fault of a text: which text, the line, and the number of the fault.
+fn fault_line(
+    alloc: Global,
+    text: &[u8],
+    line: u64,
+    between: &[u8],
+    number: u32,
+) -> Result<Text, NoMemory>
+    ensures { IfOk result (λ told. told ≡ fault_line text.now line between.now number) }
 {
-    let mut text = Vec::from_slice(alloc, b"log ")?;
-    push_number(&mut text, line)?;
-    text.extend_from_slice(b" ")?;
-    push_number(&mut text, u64::from(kind))?;
-    text.extend_from_slice(b"\n")?;
-    Ok(Text::from_vec(text))
+    let mut told = Vec::from_slice(alloc, text)?;
+    push_number(&mut told, line)?;
+    told.extend_from_slice(between)?;
+    push_number(&mut told, u64::from(number))?;
+    told.extend_from_slice(b"\n")?;
+    Ok(Text::from_vec(told))
+}
+
+/// Tells standard error of a fault of a text, and answers this status, or `NoMemory` where there is none for the line.
+fn tell_fault<E: Sink>(
+    alloc: Global,
+    err: &mut E,
+    status: Status,
+    text: &[u8],
+    line: u64,
+    between: &[u8],
+    number: u32,
+) -> Status
+    ensures { NumbersTold status (fault_line text.now line between.now number) result (record { text = E.taken err.old; faults = E.faults err.old }) (record { text = E.taken err.new; faults = E.faults err.new }) }
+{
+    match fault_line(alloc, text, line, between, number) {
+        Ok(told) => tell(err, status, told.bytes()),
+        Err(_) => Status::NoMemory,
+    }
 }
 
 /// Tells why a command stopped, and answers its status.
@@ -53,10 +75,31 @@ pub(crate) fn tell_stop<E: Sink>(alloc: Global, err: &mut E, stop: Stop) -> Stat
     match stop {
         Stop::Refused(Refusal::Usage) => tell(err, Status::Usage, USAGE),
         Stop::Refused(Refusal::TooLong) => tell(err, Status::TooLong, b"too long\n"),
-        Stop::Refused(Refusal::Log { line, kind }) => match log_line(alloc, line, kind) {
-            Ok(text) => tell(err, Status::LogFault, text.bytes()),
-            Err(_) => Status::NoMemory,
-        },
+        Stop::Refused(Refusal::Text { line, kind }) => {
+            tell_fault(
+                alloc,
+                err,
+                Status::ConfigFault,
+                b"config ",
+                line,
+                b" text ",
+                kind,
+            )
+        }
+        Stop::Refused(Refusal::Rule { line, rule }) => {
+            tell_fault(
+                alloc,
+                err,
+                Status::ConfigFault,
+                b"config ",
+                line,
+                b" rule ",
+                rule,
+            )
+        }
+        Stop::Refused(Refusal::Log { line, kind }) => {
+            tell_fault(alloc, err, Status::LogFault, b"log ", line, b" ", kind)
+        }
         Stop::ReadFault => tell(err, Status::ReadFault, b"read fault\n"),
         Stop::NoMemory => Status::NoMemory,
     }

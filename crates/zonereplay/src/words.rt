@@ -1,7 +1,7 @@
 ghost use Rattle.std.specs.Prelude.{◌≡◌, ◌≤◌, IfSome, MatchOption, Some, None};
 ghost use Rattle.req_zone.specs.Amount.{IsRate, greatest_burst};
-ghost use Rattle.zonereplay.specs.Words.{rate_of, burst_of, unit_of, size_of, one_of};
-ghost use Rattle.zonereplay.specs.Words.Command.{one};
+ghost use Rattle.zonereplay.specs.Words.{rate_of, burst_of, unit_of, size_of, one_of, check_of};
+ghost use Rattle.zonereplay.specs.Words.Command.{one, check};
 ghost use Rattle.zonereplay.specs.Jobs.{asked};
 
 use crate::job::Job;
@@ -69,4 +69,14 @@ pub(crate) fn read_one(words: &[Text]) -> Option<(Job, &Text)>
     let burst = read_burst(burst.bytes())?;
     let bytes = read_size(size.bytes())?;
     Some((Job { rate, burst, bytes }, log))
+}
+
+/// What the words `check CONFIG` ask for: the configuration's name.
+pub(crate) fn read_check(words: &[Text]) -> Option<&Text>
+    ensures { MatchOption result (check_of words.now ≡ None) (λ name. check_of words.now ≡ Some (check name.now)) }
+{
+    let [command, config] = words else {
+        return None;
+    };
+    (command.bytes() == b"check".as_slice()).then_some(config)
 }

@@ -1,4 +1,4 @@
-use Rattle.std.proofs.Common.{◌∙◌, ◌+◌, ap, List, arith, sym}
+use Rattle.std.proofs.Common.{◌∙◌, ◌+◌, ap, List, [], ◌∷◌, arith, sym, length-append}
 use Rattle.std.proofs.lemmas.List.Elements.{All-push}
 use Rattle.zonereplay.specs.Reading.{IsInLimits}
 use Rattle.zonereplay.specs.declared.keys.KeyLine.{KeyLine}
@@ -24,5 +24,6 @@ loop-rest-preserved c = record {
       ∙ after_more c.loop-rest.keys.items c.loop-rest.line c.in-Ok.key (keys_from (c.loop-rest.line + 1) (parts 10 c.in-Some.tail.now))
       ∙ ap (λ (ks : List KeyLine). after_keys ks (keys_from (c.loop-rest.line + 1) (parts 10 c.in-Some.tail.now))) (sym c.in_ok-push-in-Ok.ensures.items);
   counted = omega arith;
+  numbered = rw c.in_ok-push-in-Ok.ensures.items (omega (arith, length-append c.loop-rest.keys.items (c.in-Ok.key ∷ []), c.loop-rest.invariant.numbered));
   limits = rw c.in_ok-push-in-Ok.ensures.items (All-push IsInLimits c.loop-rest.keys.items c.in-Ok.key c.loop-rest.invariant.limits c.in-Ok.ensures.limits);
 }

@@ -1,22 +1,22 @@
 use Rattle.std.proofs.Common.{ap, arith, refl, subst, sym}
 use Rattle.zonereplay.specs.Jobs.{asked}
-use Rattle.zonereplay.specs.OneText.{one_lines}
+use Rattle.zonereplay.specs.OneText.{one_text}
 use Rattle.zonereplay.specs.Plan.{Plan, Ends, one_run}
 use Rattle.zonereplay.specs.Plan.End.{written}
-use Rattle.zonereplay.specs.Told.Told.{these}
+use Rattle.zonereplay.specs.Told.Told.{exactly}
 use Rattle.zonereplay.proofs.prepare.run_log.Goals as goal
 
-pub returns-in-Ok-lines_of : goal.returns-in-Ok-lines_of
-returns-in-Ok-lines_of c =
+pub returns-in-Ok-text_of : goal.returns-in-Ok-text_of
+returns-in-Ok-text_of c =
     let job = asked c.args.job in
-    let told = these (one_lines job c.in-Ok.keys.items) in
+    let told = exactly (one_text job c.in-Ok.keys.items) in
     λ files. record {
       files = record { kept = λ name. refl; later = λ name. omega arith };
       gives = (
         record {
           told = told;
           ends = subst (λ (p : Plan). Ends files.contents p (written told)) (sym (ap (one_run job) c.in-Ok.ensures.value)) refl;
-          shown = c.in-Ok-lines_of.ensures;
+          shown = c.in-Ok-text_of.ensures;
         },
         λ name. refl,
       );
