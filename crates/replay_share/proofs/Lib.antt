@@ -1,0 +1,4 @@
+pub mod Answered
+pub mod Parts
+pub mod Taking
+pub mod Serving

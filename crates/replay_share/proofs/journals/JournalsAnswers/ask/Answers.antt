@@ -1,0 +1,17 @@
+use Rattle.std.proofs.Common.{rules, ℕ, ◌≡◌, ◌∷◌, [], ◌++◌, List}
+use Rattle.replay_share.specs.Calls.{zone_of}
+use Rattle.replay_share.proofs.Serving.{finds, serves-after, can_at, at_set}
+use Rattle.replay_share.proofs.journals.JournalsAnswers.ask.Goals as goal
+
+pub ask-requires : goal.ask-requires
+ask-requires c =
+    let r = c.requires in
+    let f = finds c.args.self.now r.0 r.1 r.2 c.args.call r.3 r.4 in
+    (f.spec, r.1, r.2, can_at c.self.inside.journals.items c.args.self.now c.zone_of-zone.result c.index_mut.result.now r.0 r.1 r.2 c.args.call f c.self.view_is c.zone_of-zone.ensures c.index_mut.ensures.value)
+
+pub returns-clause-served : goal.returns-clause-served
+returns-clause-served c = λ zones room asked serves can.
+    let f = finds c.args.self.now zones room asked c.args.call serves can in
+    let taken = can_at c.self.inside.journals.items c.args.self.now c.zone_of-zone.result c.index_mut.result.now zones room asked c.args.call f c.self.view_is c.zone_of-zone.ensures c.index_mut.ensures.value in
+    at_set c.self.inside.journals.items c.args.self.now c.zone_of-zone.result (zone_of c.args.call) c.ask.new.self zones room (asked ++ record { call = c.args.call; reply = c.ask.result } ∷ []) c.self.view_is c.zone_of-zone.ensures
+      (serves-after c.args.self.now zones room asked c.args.call c.ask.result c.ask.new.self serves f (c.ask.ensures.taken f.spec room asked taken) c.ask.ensures.kind can.there)

@@ -1,0 +1,86 @@
+-- Zones with the journals of their calls, as one caller has them.
+use Rattle.std.specs.Prelude.{ℕ, ◌≡◌, ◌<◌, List, map, Option, Some, None, slice_get}
+use Rattle.std.specs.List.{All}
+use Rattle.zone_object.specs.History.{Recorded, HasRun}
+use Rattle.req_zone.specs.declared.words.ReqWords.{ReqWords}
+use Rattle.req_zone.specs.Object as req
+use Rattle.req_zone.specs.Lays as req_words
+use Rattle.conn_zone.specs.Object as conn
+use Rattle.conn_zone.specs.Layout as conn_words
+use Rattle.peer_zone.specs.declared.words.PeerWords.{PeerWords}
+use Rattle.peer_zone.specs.Object as peer
+use Rattle.peer_zone.specs.Opening as opening
+use Rattle.peer_zone.specs.Lays as peer_words
+use Rattle.zone_config.specs.declared.data.ReqData.{ReqData}
+use Rattle.zone_config.specs.declared.data.ConnData.{ConnData}
+use Rattle.zone_config.specs.declared.data.PeerData.{PeerData}
+use Rattle.zone_config.specs.declared.data.ZoneSpec.{ZoneSpec}
+use Rattle.zone_config.specs.declared.data.ZoneSpec.TheVariants as zone
+use Rattle.request_script.specs.declared.call.ZoneCall.{ZoneCall}
+use Rattle.request_script.specs.Turn.{Exchange}
+use Rattle.request_script.specs.Permitted.{MayAsk, calls_to}
+use Rattle.replay_share.specs.Calls.{IsOfKind, IsWith, zone_of}
+use Rattle.replay_share.specs.declared.journal.ZoneJournal.{ZoneJournal}
+use Rattle.replay_share.specs.declared.journal.ZoneJournal.TheVariants.{Req, Conn, Peer}
+use Rattle.replay_share.specs.Logs.{ReqEntry, ConnEntry, PeerEntry, ZoneLog, req_opened, conn_opened, peer_opened, HasCallersBelow, HasPart, HasParts}
+use Rattle.replay_share.specs.Logs.ZoneLog.{req_log, conn_log, peer_log}
+
+-- ---- one zone
+
+-- A journal with room for so many calls, all of them caller 0's, of a zone that was opened as the configuration says and has
+-- run them.
+pub record RunsReq (spec : ReqData) (room : ℕ) (journal : Recorded ReqWords ReqEntry) : Type 0 where
+  pub room_is : journal.room ≡ room
+  pub ran : HasRun req.IsOpened req_words.Lays req.answer_of req.zone_after req.Permits (req_opened spec) journal.object journal.log
+  pub mine : HasCallersBelow 1 journal.log
+
+pub record RunsConn (spec : ConnData) (room : ℕ) (journal : Recorded conn_words.Zone ConnEntry) : Type 0 where
+  pub room_is : journal.room ≡ room
+  pub ran : HasRun conn.IsOpened conn_words.Lays conn.answer_of conn.zone_after conn.Permits (conn_opened spec) journal.object journal.log
+  pub mine : HasCallersBelow 1 journal.log
+
+pub record RunsPeer (spec : PeerData) (room : ℕ) (journal : Recorded PeerWords PeerEntry) : Type 0 where
+  pub room_is : journal.room ≡ room
+  pub ran : HasRun opening.IsOpened peer_words.Lays peer.answer_of peer.zone_after peer.Permits (peer_opened spec) journal.object journal.log
+  pub mine : HasCallersBelow 1 journal.log
+
+-- the journal of a zone that the configuration says
+abbrev pub IsJournalOf : ZoneSpec → ℕ → ZoneJournal → Type 0
+IsJournalOf (zone.Req spec key) room (Req journal) = RunsReq spec room journal
+IsJournalOf (zone.Conn spec key) room (Conn journal) = RunsConn spec room journal
+IsJournalOf (zone.Peer spec line) room (Peer journal) = RunsPeer spec room journal
+IsJournalOf _ room _ = ⊥
+
+-- the history that a journal has
+abbrev pub log_of : ZoneJournal → ZoneLog
+log_of (Req journal) = req_log journal.log
+log_of (Conn journal) = conn_log journal.log
+log_of (Peer journal) = peer_log journal.log
+
+-- ---- all zones
+
+-- a journal at its place among the journals of all zones
+abbrev pub IsJournalAt : ℕ → Option ZoneSpec → Option ZoneJournal → Type 0
+IsJournalAt room (Some spec) (Some journal) = IsJournalOf spec room journal
+IsJournalAt room None None = Unit {0}
+IsJournalAt room _ _ = ⊥
+
+-- The zones with their journals, which have what caller 0 asked.
+pub record Serves (journals : List ZoneJournal) (zones : List ZoneSpec) (room : ℕ) (asked : List Exchange) : Type 0 where
+  pub each : (z : ℕ) → IsJournalAt room (slice_get zones z) (slice_get journals z)
+  pub parts : HasParts asked 0 (map log_of journals)
+  pub kinds : All (IsWith zones) asked
+
+-- ---- a call
+
+-- the journal has what caller 0 asked of the zone that a call goes to
+pub record TakesAs (journal : ZoneJournal) (spec : ZoneSpec) (room : ℕ) (asked : List Exchange) (call : ZoneCall) : Type 0 where
+  pub kept : IsJournalOf spec room journal
+  pub part : HasPart asked 0 (zone_of call) (log_of journal)
+
+-- and the call may be made
+pub record CanTake (journal : ZoneJournal) (spec : ZoneSpec) (room : ℕ) (asked : List Exchange) (call : ZoneCall) : Type 0 where
+  pub taken : TakesAs journal spec room asked call
+  pub kind : IsOfKind (Some spec) call
+  pub room_left : calls_to (zone_of call) asked < room
+  pub may : MayAsk asked call

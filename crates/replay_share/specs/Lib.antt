@@ -1,0 +1,4 @@
+pub mod Logs
+pub mod Calls
+pub mod Journals
+pub mod Replay

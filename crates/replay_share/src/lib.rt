@@ -1,0 +1,10 @@
+//! A share of a log that is replayed against the zones: what it asks of them, and what is decided of its lines.
+#![tactic(auto)]
+
+mod answers;
+mod journal;
+mod journals;
+
+pub use answers::Answers;
+pub use journal::ZoneJournal;
+pub use journals::Journals;
