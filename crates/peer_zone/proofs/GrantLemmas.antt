@@ -204,3 +204,8 @@ goes_on-fits spec before slab size requests is on = go (grant slab size).0 refl 
       let fair = refused-law spec is (ap (λ (r : Option Request). option_and_then server_of r) refused) in
       absurd (cc)
   go (Some at) some = (at, refl)
+
+-- nor is the block that heads the backup list
+pub backup-fits : (spec : PeerSpec) (before : List ℕ) (slab : Slab) (number : ℕ) (servers : List Server) → IsSpec spec → GoesOn spec before slab (backup_requests number servers) → 0 < length servers → (at : ℕ) × ((grant slab list_size).0 ≡ Some at)
+backup-fits spec before slab number [] is on some = absurd (omega (arith, some))
+backup-fits spec before slab number (server ∷ rest) is on some = goes_on-fits spec before slab list_size (record_requests number (server ∷ rest)) is on

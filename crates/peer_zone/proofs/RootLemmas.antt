@@ -1,5 +1,5 @@
 -- A zone whose blocks are placed, once what names them is written.
-use Rattle.std.proofs.Common.{ℕ, suc, ◌≡◌, ◌≢◌, ◌+◌, ◌*◌, ◌/◌, ◌^◌, ◌<◌, ◌≤◌, ◌∙◌, sym, ap, subst, refl, inl, inr, Bool, true, false, List, [], ◌∷◌, ◌++◌, length, map, get_or, set, Option, Some, None, arith, get_or-set_same, get_or-set_other}
+use Rattle.std.proofs.Common.{ℕ, suc, ◌≡◌, ◌≢◌, ◌+◌, ◌*◌, ◌/◌, ◌^◌, ◌<◌, ◌≤◌, ◌∙◌, sym, ap, subst, refl, inl, inr, Bool, true, false, List, [], ◌∷◌, ◌++◌, length, map, get_or, set, Option, Some, None, arith, length-append, get_or-set_same, get_or-set_other}
 use Rattle.std.specs.Prelude.{◌&&◌, nat_eq, unwrap_or}
 use Rattle.std.specs.List.{All}
 use Rattle.std.proofs.lemmas.List.{length-map, length-set}
@@ -35,6 +35,10 @@ use Rattle.peer_zone.proofs.OpeningLaws.{opened-law}
 use Rattle.peer_zone.proofs.RecordLemmas.{records-kept}
 use Rattle.peer_zone.proofs.ZoneLemmas.{distinct-whole, list-kept, context-kept, backup-kept}
 use Rattle.peer_zone.proofs.GrantLemmas.{granted-keeps, keeps-twice, keeps-room, GoesOn, goes_on, goes_on-one, goes_on-all}
+
+-- the bytes of the name block
+pub text_size : (name : List ℕ) → length (name_text name) ≡ name_size name
+text_size name = omega (arith, length-append name (34 ∷ 0 ∷ []))
 
 -- ---- all blocks are placed
 

@@ -1,4 +1,4 @@
-ghost use Rattle.std.specs.Prelude.{◌≡◌, ℕ, ◌+◌, ◌*◌, ◌<◌, ◌≤◌, length, Some, IfOk, MatchResult};
+ghost use Rattle.std.specs.Prelude.{◌≡◌, ℕ, ◌+◌, ◌*◌, ◌<◌, ◌≤◌, ◌&&◌, nat_eq, length, Some, IfOk, MatchResult};
 ghost use Rattle.std.specs.List.{All};
 ghost use Rattle.slab_model.specs.Geometry.{greatest_zone};
 ghost use Rattle.slab_model.specs.State.{Slab};
@@ -140,6 +140,13 @@ fn place(pool: &mut Pool, spec: &PeerSpec, name_size: u64) -> Result<Placed, u32
     })
 }
 
+/// Whether the upstream has exactly one server and no backup.
+fn is_single(spec: &PeerSpec) -> bool
+    ensures { result ≡ (nat_eq (length spec.now.primary) 1 && nat_eq (length spec.now.backup) 0) }
+{
+    spec.primary.len() == 1 && spec.backup.len() == 0
+}
+
 /// Writes what names the placed blocks: the block that heads the primary list, the context, the name and the header.
 fn write_roots(pool: &mut Pool, spec: &PeerSpec, text: &[u8], placed: &Placed)
     requires spec { IsSpec spec.now }
@@ -148,8 +155,7 @@ fn write_roots(pool: &mut Pool, spec: &PeerSpec, text: &[u8], placed: &Placed)
     ensures { Begins pool.new spec.now placed.now }
 {
     let servers = spec.primary.len() as u64;
-    let single = servers == 1 && spec.backup.is_empty();
-    write_list(pool, placed.list, placed.first, servers, single);
+    write_list(pool, placed.list, placed.first, servers, is_single(spec));
     let backup = placed.backup.unwrap_or(0);
     write_context(pool, placed.context, placed.list.at, backup, spec.method);
     write_bytes(pool, placed.name, 0, text);
