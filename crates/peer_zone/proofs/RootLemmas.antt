@@ -1,6 +1,6 @@
 -- A zone whose blocks are placed, once what names them is written.
 use Rattle.std.proofs.Common.{ℕ, suc, ◌≡◌, ◌≢◌, ◌+◌, ◌*◌, ◌/◌, ◌^◌, ◌<◌, ◌≤◌, ◌∙◌, sym, ap, subst, refl, inl, inr, Bool, true, false, List, [], ◌∷◌, ◌++◌, length, map, get_or, set, Option, Some, None, arith, length-append, get_or-set_same, get_or-set_other}
-use Rattle.std.specs.Prelude.{◌&&◌, nat_eq, unwrap_or}
+use Rattle.std.specs.Prelude.{◌&&◌, nat_eq, unwrap_or, option_and_then}
 use Rattle.std.specs.List.{All}
 use Rattle.std.proofs.lemmas.List.{length-map, length-set}
 use Rattle.zone_region.specs.Words.{Words}
@@ -10,6 +10,7 @@ use Rattle.zone_region.proofs.MembersLemmas.{In-append_left, In-append_right}
 use Rattle.block_bytes.specs.Bytes.{HoldsBytes, PutsBytes}
 use Rattle.block_bytes.proofs.BytesLemmas.{holds_bytes-same}
 use Rattle.slab_model.specs.declared.shape.Shape.{Shape}
+use Rattle.slab_model.specs.Geometry.{IsInLimits}
 use Rattle.slab_model.specs.State.{Slab}
 use Rattle.slab_model.specs.Grant.{grant}
 use Rattle.slab_pages.specs.Places.{Image, log_ctx_word, data_word}
@@ -24,11 +25,12 @@ use Rattle.peer_zone.specs.declared.state.PeerRecord.{PeerRecord}
 use Rattle.peer_zone.specs.declared.state.PeerState.{PeerState}
 use Rattle.peer_zone.specs.Records.{fresh_record}
 use Rattle.peer_zone.specs.Object.{is_single}
-use Rattle.peer_zone.specs.Opening.{Request, besides, context_size, name_size, list_size, record_requests, backup_requests, grant_all, grants_of, pool_of, opened_zone, IsSpec, IsOpened}
+use Rattle.peer_zone.specs.Opening.{Request, besides, context_size, name_size, list_size, record_requests, backup_requests, grant_all, server_of, grants_of, refused_server, pool_of, opened_zone, IsSpec, IsOpened}
 use Rattle.peer_zone.specs.Holding.{IsWhole}
 use Rattle.peer_zone.specs.Words.{first_of, LaysRecords}
 use Rattle.peer_zone.specs.Layout.{HoldsList, HoldsContext, LaysBackup, name_text}
-use Rattle.peer_zone.specs.Lays.{head_of}
+use Rattle.peer_zone.specs.Lays.{Lays, head_of}
+use Rattle.peer_zone.specs.Faults.{HasPages}
 use Rattle.peer_zone.specs.Placing.{ChangesBlock, KeepsLive, GrantsBlock, IsPlaced, PlacesRecords, PlacesBackup, Begins}
 use Rattle.peer_zone.specs.Proving.Blocks.{opened-whole}
 use Rattle.peer_zone.proofs.OpeningLaws.{opened-law}
@@ -197,3 +199,25 @@ begun p5 p6 p7 p8 p9 spec p single backup is i single_is backup_is w =
       primary_is = refl;
       backup_is = i.backup_is;
     }
+
+-- ---- a zone that was just opened
+
+pub opened-lays : (image : Image) (spec : PeerSpec) (p : Placed) (entries : ℕ) → IsSpec spec → Begins image spec p → entries ≡ length spec.primary + length spec.backup → Lays (record { pool = image; spec = spec; primary = p.list.at; backup = p.backup; entries = entries }) (opened_zone spec)
+opened-lays image spec p entries is b many = record {
+  words = b.words;
+  spec_is = (opened-law spec is b.all).0;
+  primary_is = b.primary_is;
+  backup_is = b.backup_is;
+  entries_is = omega (arith, many, length-map spec.primary fresh_record, length-map spec.backup fresh_record);
+}
+
+pub has_pages : (spec : PeerSpec) → IsSpec spec → spec.page_shift ≡ 12 → HasPages spec
+has_pages spec is shift =
+    let limits = subst (λ (n : ℕ). IsInLimits (record { bytes = spec.bytes; page_shift = n })) shift is.limits in
+    omega (arith, limits.large)
+
+pub none_refused : (image : Image) (spec : PeerSpec) (p : Placed) → Begins image spec p → refused_server spec ≡ None
+none_refused image spec p b = ap (λ (r : Option Request). option_and_then server_of r) b.all
+
+pub opened_quiet : (image : Image) (spec : PeerSpec) (p : Placed) → IsSpec spec → Begins image spec p → IsOpened (opened_zone spec)
+opened_quiet image spec p is b = (opened-law spec is b.all).1
