@@ -1,5 +1,5 @@
 -- The words of a record, a list and a context that are fresh.
-use Rattle.std.proofs.Common.{ℕ, zero, suc, ◌≡◌, ◌+◌, ◌/◌, ◌<◌, ◌≤◌, ◌∙◌, sym, ap, subst, refl, inl, inr, Bool, true, false, List, [], ◌∷◌, length, get_or, zero-add, arith, lit<, w64}
+use Rattle.std.proofs.Common.{ℕ, zero, suc, ◌≡◌, ◌+◌, ◌/◌, ◌<◌, ◌≤◌, ◌∙◌, sym, ap, subst, refl, inl, Bool, true, false, List, [], ◌∷◌, length, get_or, zero-add, arith, lit<, w64}
 use Rattle.std.specs.Int.{cast_signed, from_bool}
 use Rattle.zone_region.specs.Words.{Words, word_at}
 use Rattle.block_bytes.specs.Bytes.{HoldsBytes, PutsBytes}

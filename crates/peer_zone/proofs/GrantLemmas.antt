@@ -1,7 +1,6 @@
 -- The grants at the opening, one after another.
-use Rattle.std.proofs.Common.{ℕ, ◌≡◌, ◌≢◌, ◌+◌, ◌*◌, ◌/◌, ◌<◌, ◌≤◌, ◌∙◌, sym, ap, subst, refl, inl, inr, Bool, true, false, List, [], ◌∷◌, ◌++◌, length, map, Option, Some, None, arith, append_assoc}
+use Rattle.std.proofs.Common.{ℕ, ◌≡◌, ◌≢◌, ◌+◌, ◌*◌, ◌/◌, ◌<◌, ◌≤◌, ◌∙◌, sym, ap, subst, refl, inl, inr, false, List, [], ◌∷◌, ◌++◌, length, map, Option, Some, None, arith, append_assoc}
 use Rattle.std.specs.Prelude.{option_and_then}
-use Rattle.std.proofs.lemmas.Bool.{cases_eq}
 use Rattle.std.proofs.lemmas.List.{length-map}
 use Rattle.zone_region.specs.Words.{Words}
 use Rattle.zone_region.specs.Members.{In}
@@ -14,10 +13,9 @@ use Rattle.slab_pool.specs.Live.{block_words, rest_of}
 use Rattle.slab_pool.proofs.RestLemmas.{rest-laid}
 use Rattle.peer_zone.specs.declared.calls.Server.{Server}
 use Rattle.peer_zone.specs.declared.calls.PeerSpec.{PeerSpec}
-use Rattle.peer_zone.specs.declared.state.PeerRecord.{PeerRecord}
 use Rattle.peer_zone.specs.Records.{fresh_record}
 use Rattle.peer_zone.specs.Opening.{Request, Granted, besides, list_size, record_size, record_requests, backup_requests, first_granted, grant_all, server_of, pool_of, requests_of, grants_of, IsSpec}
-use Rattle.peer_zone.specs.Words.{HoldsRecord, LaysRecords, first_of}
+use Rattle.peer_zone.specs.Words.{HoldsRecord}
 use Rattle.peer_zone.specs.Layout.{HoldsList}
 use Rattle.peer_zone.specs.Placing.{ChangesBlock, KeepsLive, GrantsBlock, IsRefused, GrantsAll, PlacesRecords, PlacesBackup}
 use Rattle.peer_zone.proofs.RecordLemmas.{records-kept}

@@ -1,15 +1,13 @@
 -- A zone whose blocks are placed, once what names them is written.
-use Rattle.std.proofs.Common.{ℕ, suc, ◌≡◌, ◌≢◌, ◌+◌, ◌*◌, ◌/◌, ◌^◌, ◌<◌, ◌≤◌, ◌∙◌, sym, ap, subst, refl, inl, inr, Bool, true, false, List, [], ◌∷◌, ◌++◌, length, map, get_or, set, Option, Some, None, arith, length-append, get_or-set_same, get_or-set_other}
+use Rattle.std.proofs.Common.{ℕ, ◌≡◌, ◌≢◌, ◌+◌, ◌*◌, ◌<◌, ◌≤◌, ◌∙◌, sym, ap, subst, refl, inl, inr, Bool, List, [], ◌∷◌, ◌++◌, length, map, get_or, set, Option, Some, None, arith, length-append, get_or-set_same, get_or-set_other}
 use Rattle.std.specs.Prelude.{◌&&◌, nat_eq, unwrap_or, option_and_then}
-use Rattle.std.specs.List.{All}
 use Rattle.std.proofs.lemmas.List.{length-map, length-set}
 use Rattle.zone_region.specs.Words.{Words}
 use Rattle.zone_region.specs.Members.{In, IsDistinct}
 use Rattle.zone_region.specs.Granting.{SameBlockWords}
 use Rattle.zone_region.proofs.MembersLemmas.{In-append_left, In-append_right}
-use Rattle.block_bytes.specs.Bytes.{HoldsBytes, PutsBytes}
+use Rattle.block_bytes.specs.Bytes.{PutsBytes}
 use Rattle.block_bytes.proofs.BytesLemmas.{holds_bytes-same}
-use Rattle.slab_model.specs.declared.shape.Shape.{Shape}
 use Rattle.slab_model.specs.Geometry.{IsInLimits}
 use Rattle.slab_model.specs.State.{Slab}
 use Rattle.slab_model.specs.Grant.{grant}
@@ -17,18 +15,14 @@ use Rattle.slab_pages.specs.Places.{Image, log_ctx_word, data_word}
 use Rattle.slab_pool.specs.Pool.{LaysPool}
 use Rattle.slab_pool.specs.Live.{block_words, rest_of}
 use Rattle.slab_pool.proofs.RestLemmas.{rest-laid}
-use Rattle.peer_zone.specs.declared.calls.Method.{Method}
-use Rattle.peer_zone.specs.declared.calls.Server.{Server}
 use Rattle.peer_zone.specs.declared.calls.PeerSpec.{PeerSpec}
 use Rattle.peer_zone.specs.declared.opening.Placed.{Placed}
 use Rattle.peer_zone.specs.declared.state.PeerRecord.{PeerRecord}
-use Rattle.peer_zone.specs.declared.state.PeerState.{PeerState}
 use Rattle.peer_zone.specs.Records.{fresh_record}
 use Rattle.peer_zone.specs.Object.{is_single}
-use Rattle.peer_zone.specs.Opening.{Request, besides, context_size, name_size, list_size, record_requests, backup_requests, grant_all, server_of, grants_of, refused_server, pool_of, opened_zone, IsSpec, IsOpened}
-use Rattle.peer_zone.specs.Holding.{IsWhole}
+use Rattle.peer_zone.specs.Opening.{Request, besides, context_size, name_size, list_size, record_requests, backup_requests, grant_all, server_of, refused_server, pool_of, opened_zone, IsSpec, IsOpened}
 use Rattle.peer_zone.specs.Words.{first_of, LaysRecords}
-use Rattle.peer_zone.specs.Layout.{HoldsList, HoldsContext, LaysBackup, name_text}
+use Rattle.peer_zone.specs.Layout.{HoldsList, HoldsContext, name_text}
 use Rattle.peer_zone.specs.Lays.{Lays, head_of}
 use Rattle.peer_zone.specs.Faults.{HasPages}
 use Rattle.peer_zone.specs.Placing.{ChangesBlock, KeepsLive, GrantsBlock, IsPlaced, PlacesRecords, PlacesBackup, Begins}

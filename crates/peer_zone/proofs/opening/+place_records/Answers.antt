@@ -1,15 +1,11 @@
-use Rattle.std.proofs.Common.{ℕ, ◌≡◌, ◌+◌, ◌<◌, ◌∙◌, sym, ap, subst, List, ◌∷◌, length, Some, None, arith, rules}
+use Rattle.std.proofs.Common.{ℕ, ◌≡◌, ◌+◌, sym, subst, List, length, rules}
 use Rattle.std.specs.List.{All}
-use Rattle.std.proofs.lemmas.List.Elements.{All-head, All-tail}
-use Rattle.slab_model.specs.State.{Slab}
-use Rattle.slab_model.specs.Grant.{grant}
-use Rattle.slab_pool.specs.Pool.{LaysPool}
-use Rattle.slab_pool.specs.Live.{block_words}
+use Rattle.std.proofs.lemmas.List.Elements.{All-tail}
 use Rattle.peer_zone.specs.declared.calls.Server.{Server}
 use Rattle.peer_zone.specs.Object.{IsServer}
 use Rattle.peer_zone.specs.Opening.{record_size, record_requests, grant_all}
-use Rattle.peer_zone.specs.Placing.{GrantsBlock, IsRefused, PlacesRecords}
-use Rattle.peer_zone.proofs.GrantLemmas.{grants-block, places-none, places-more, refused-here, refused-later}
+use Rattle.peer_zone.specs.Placing.{GrantsBlock, PlacesRecords}
+use Rattle.peer_zone.proofs.GrantLemmas.{grants-block, places-more}
 use Rattle.peer_zone.proofs.opening.+place_records.Goals as goal
 
 pub place_records-requires : goal.place_records-requires

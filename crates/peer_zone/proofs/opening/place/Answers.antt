@@ -1,7 +1,5 @@
-use Rattle.std.proofs.Common.{ℕ, ◌≡◌, ◌+◌, ◌<◌, ◌∙◌, sym, ap, subst, List, [], ◌∷◌, ◌++◌, length, Some, None, arith, rules}
-use Rattle.slab_model.specs.State.{Slab}
+use Rattle.std.proofs.Common.{ℕ, ◌≡◌, ◌<◌, ◌∙◌, sym, subst, List, [], ◌∷◌, ◌++◌, length, Some, rules}
 use Rattle.slab_model.specs.Grant.{grant}
-use Rattle.slab_pool.specs.Pool.{LaysPool}
 use Rattle.peer_zone.specs.declared.calls.Server.{Server}
 use Rattle.peer_zone.specs.Opening.{besides, context_size, name_size, list_size, record_requests, backup_requests, grant_all, grants_of, pool_of}
 use Rattle.peer_zone.specs.Placing.{GrantsBlock, IsRefused, PlacesRecords, PlacesBackup}

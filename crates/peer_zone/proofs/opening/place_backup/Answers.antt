@@ -1,7 +1,5 @@
-use Rattle.std.proofs.Common.{ℕ, ◌≡◌, ◌<◌, List, [], subst, length, refl, arith}
+use Rattle.std.proofs.Common.{◌<◌, length, arith}
 use Rattle.std.proofs.lemmas.Bool.Decides.{nat_tests}
-use Rattle.slab_model.specs.State.{Slab}
-use Rattle.peer_zone.specs.declared.calls.Server.{Server}
 use Rattle.peer_zone.proofs.GrantLemmas.{backup-some}
 use Rattle.peer_zone.proofs.opening.place_backup.Goals as goal
 

@@ -1,7 +1,4 @@
-use Rattle.std.proofs.Common.{ℕ, ◌≡◌, ◌+◌, ◌∙◌, ap, subst, length, arith, rules}
-use Rattle.slab_model.specs.declared.shape.Shape.{Shape}
-use Rattle.slab_model.specs.Geometry.{IsInLimits}
-use Rattle.slab_pages.specs.Shapes.{shape_in}
+use Rattle.std.proofs.Common.{◌≡◌, ◌+◌, length, arith, rules}
 use Rattle.peer_zone.specs.Opening.{opened_zone, IsSpec}
 use Rattle.peer_zone.proofs.RootLemmas.{opened-lays, has_pages, none_refused, opened_quiet}
 use Rattle.peer_zone.proofs.object.PeerZone.open.Goals as goal
