@@ -2,3 +2,4 @@ pub mod Answered
 pub mod Parts
 pub mod Taking
 pub mod Serving
+pub mod Served

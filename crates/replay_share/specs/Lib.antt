@@ -1,4 +1,5 @@
 pub mod Logs
 pub mod Calls
 pub mod Journals
+pub mod Opening
 pub mod Replay

@@ -4,7 +4,9 @@
 mod answers;
 mod journal;
 mod journals;
+mod opening;
 
 pub use answers::Answers;
 pub use journal::ZoneJournal;
 pub use journals::Journals;
+pub use opening::OpeningFault;

@@ -1,0 +1,132 @@
+ghost use Rattle.std.specs.Prelude.{◌≡◌, [], ◌∷◌, ◌++◌, IfOk, OnOk};
+ghost use Rattle.std.specs.List.{All};
+ghost use Rattle.zone_config.specs.Conditions.{AreZones, IsZone, IsWithin, IsZoneSpec, HasServers, HasOwnServers};
+ghost use Rattle.replay_share.specs.Opening.{OpensReq, OpensConn, OpensPeer, OpensZone, OpensZones};
+
+use crate::journal::ZoneJournal;
+use crate::journals::Journals;
+use conn_zone::ConnZone;
+use peer_zone::PeerZone;
+use req_zone::ReqZone;
+use request_script::{conn_spec, peer_spec, req_spec};
+use std::alloc::Global;
+use thiserror::Error;
+use zone_config::{ConnData, PeerData, ReqData, ZoneSpec};
+use zone_object::Journal;
+use zone_outside::NoMemory;
+
+/// Why the zones of a configuration can't be opened.
+#[derive(Clone, Copy, Debug, PartialEq, Eq, Error)]
+pub enum OpeningFault {
+    /// The upstream zone of this line has no block for one of its servers.
+    #[error("line {line}: the zone has no block for a server")]
+    Refused { line: u64 },
+    /// There is no memory.
+    #[error("no memory")]
+    NoMemory,
+}
+
+impl From<NoMemory> for OpeningFault {
+    ghost use Rattle.std.specs.Prelude.{◌≡◌};
+    ghost use Rattle.replay_share.specs.declared.opening.OpeningFault.TheVariants.{NoMemory};
+
+    ghost from_gives = { λ _ fault. fault ≡ NoMemory };
+
+    fn from(_error: NoMemory) -> OpeningFault {
+        OpeningFault::NoMemory
+    }
+}
+
+/// Opens a request zone, with room for so many calls.
+fn open_req(alloc: Global, given: &ReqData, room: u32) -> Result<Journal<ReqZone>, NoMemory>
+    requires zone { IsZone given.now.name given.now.bytes given.now.page_shift }
+    requires rate { IsWithin 1 1000000000 given.now.rate }
+    ensures { IfOk result (OpensReq given.now room) }
+{
+    let spec = req_spec(alloc, given)?;
+    match ReqZone::open(alloc, &spec) {
+        Ok(zone) => Journal::new(alloc, zone, room),
+        Err(req_zone::OpenFault::NoMemory) => Err(NoMemory),
+        Err(req_zone::OpenFault::TooSmall) => unreachable!(),
+    }
+}
+
+/// Opens a connection zone, with room for so many calls.
+fn open_conn(alloc: Global, given: &ConnData, room: u32) -> Result<Journal<ConnZone>, NoMemory>
+    requires { IsZone given.now.name given.now.bytes given.now.page_shift }
+    ensures { IfOk result (OpensConn given.now room) }
+{
+    let spec = conn_spec(alloc, given)?;
+    match ConnZone::open(alloc, spec) {
+        Ok(zone) => Journal::new(alloc, zone, room),
+        Err(conn_zone::OpenFault::NoMemory) => Err(NoMemory),
+        Err(conn_zone::OpenFault::TooSmall) => unreachable!(),
+    }
+}
+
+/// Opens an upstream's zone of this line, with room for so many calls.
+fn open_peer(
+    alloc: Global,
+    given: &PeerData,
+    line: u64,
+    room: u32,
+) -> Result<Journal<PeerZone>, OpeningFault>
+    requires zone { IsZone given.now.name given.now.bytes given.now.page_shift }
+    requires servers { HasServers given.now }
+    ensures { OpensPeer given.now line room result }
+{
+    let spec = peer_spec(alloc, given)?;
+    match PeerZone::open(alloc, spec) {
+        Ok(zone) => Ok(Journal::new(alloc, zone, room)?),
+        Err(peer_zone::OpenFault::Small { server: _ }) => Err(OpeningFault::Refused { line }),
+        Err(peer_zone::OpenFault::NoMemory) => Err(OpeningFault::NoMemory),
+        Err(peer_zone::OpenFault::TooSmall) => unreachable!(),
+    }
+}
+
+/// Opens a zone that the configuration says, with room for so many calls.
+pub(crate) fn open_zone(
+    alloc: Global,
+    spec: &ZoneSpec,
+    room: u32,
+) -> Result<ZoneJournal, OpeningFault>
+    requires zone { IsZoneSpec spec.now }
+    requires servers { HasOwnServers spec.now }
+    ensures { OpensZone spec.now room result }
+{
+    Ok(match spec {
+        ZoneSpec::Req { spec, key: _ } => ZoneJournal::Req {
+            journal: open_req(alloc, spec, room)?,
+        },
+        ZoneSpec::Conn { spec, key: _ } => ZoneJournal::Conn {
+            journal: open_conn(alloc, spec, room)?,
+        },
+        ZoneSpec::Peer { spec, line } => ZoneJournal::Peer {
+            journal: open_peer(alloc, spec, *line, room)?,
+        },
+    })
+}
+
+/// Adds a journal to those of the zones before.
+fn keep(journals: &mut Vec<ZoneJournal>, journal: ZoneJournal) -> Result<(), NoMemory>
+    ensures { OnOk result (journals.new.items ≡ journals.old.items ++ journal ∷ []) }
+{
+    journals.push(journal)?;
+    Ok(())
+}
+
+impl Journals {
+    /// Opens the zones of a configuration, each with room for so many calls. `Refused` comes exactly where one of them has no
+    /// block for a server of its upstream, with the line of the first.
+    pub fn open(alloc: Global, zones: &[ZoneSpec], room: u32) -> Result<Journals, OpeningFault>
+        requires zones { AreZones zones.now }
+        requires servers { All HasOwnServers zones.now }
+        ensures { OpensZones zones.now room result }
+    {
+        let mut journals = Vec::new(alloc);
+        for zone in zones {
+            keep(&mut journals, open_zone(alloc, zone, room)?)?;
+        }
+        Ok(Journals { journals })
+    }
+}
