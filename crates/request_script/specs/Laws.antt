@@ -1,5 +1,5 @@
 -- The laws of a share's calls.
-use Rattle.std.specs.Prelude.{ℕ, ◌≡◌, ◌*◌, ◌≤◌, ◌++◌, List, length}
+use Rattle.std.specs.Prelude.{ℕ, ◌*◌, ◌<◌, ◌≤◌, ◌++◌, List, length}
 use Rattle.std.specs.List.{All}
 use Rattle.zone_config.specs.declared.data.Config.{Config}
 use Rattle.zone_config.specs.Conditions.{IsConfig}
@@ -12,24 +12,40 @@ use Rattle.request_script.specs.Turn.{Turn, Exchange, Leads}
 use Rattle.request_script.specs.Turn.Turn.{asks}
 use Rattle.request_script.specs.Steps.{turn_of}
 use Rattle.request_script.specs.Drive.{Table, nothing_active, Drives}
-use Rattle.request_script.specs.Permitted.{MayAsk, calls_to}
+use Rattle.request_script.specs.Permitted.{MayAsk, IsOfKind, calls_to}
 
--- a share's lines are decided, and of its next line these calls were asked and answered; now it asks this call
-pub record Asks (config : Config) (lines : List Line) (line : Line) (asked : List Exchange) (call : ZoneCall) : Type 0 where
-  pub decided : List Exchange
-  pub since : List Exchange
-  pub decisions : List Decision
-  pub table : Table
-  pub next : ZoneReply → Turn
-  pub drives : Drives config nothing_active lines decided decisions table
-  pub leads : Leads (turn_of config (table line.conn) line) since (asks call next)
-  pub all : asked ≡ decided ++ since
+-- ---- what a turn asks
 
--- Each call that a share asks is permitted by what it asked before and was answered.
+-- After what was asked before, each call of a turn is permitted by that and by what the turn asked before it, whatever
+-- it is answered.
+abbrev pub Permits : List Exchange → Turn → Type 0
+Permits past turn = (since : List Exchange) (call : ZoneCall) (next : ZoneReply → Turn) → Leads turn since (asks call next) → MayAsk (past ++ since) call
+
+-- a turn asks zones of these kinds
+abbrev pub AsksKinds : Config → Turn → Type 0
+AsksKinds config turn = (since : List Exchange) (call : ZoneCall) (next : ZoneReply → Turn) → Leads turn since (asks call next) → IsOfKind config.zones call
+
+-- a turn asks at most n times
+abbrev pub AsksAtMost : ℕ → Turn → Type 0
+AsksAtMost n turn = (since : List Exchange) (call : ZoneCall) (next : ZoneReply → Turn) → Leads turn since (asks call next) → length since < n
+
+-- ---- what holds of the turn of a share's next line, after the lines that were decided
+
+-- Each call is permitted by what the share asked before and was answered.
 abbrev pub PermitsLaw : Type 0
-PermitsLaw = (config : Config) (lines : List Line) (line : Line) (asked : List Exchange) (call : ZoneCall) → IsConfig config
+PermitsLaw = (config : Config) (lines : List Line) (line : Line) (asked : List Exchange) (decisions : List Decision) (table : Table) → IsConfig config
     → All (IsLineOf (length config.locations)) lines → IsLineOf (length config.locations) line
-    → Asks config lines line asked call → MayAsk asked call
+    → Drives config nothing_active lines asked decisions table → Permits asked (turn_of config (table line.conn) line)
+
+-- Each call goes to a zone of its kind.
+abbrev pub KindsLaw : Type 0
+KindsLaw = (config : Config) (lines : List Line) (line : Line) (asked : List Exchange) (decisions : List Decision) (table : Table) → IsConfig config
+    → Drives config nothing_active lines asked decisions table → AsksKinds config (turn_of config (table line.conn) line)
+
+-- A line is decided after at most 34 calls.
+abbrev pub EndsLaw : Type 0
+EndsLaw = (config : Config) (lines : List Line) (line : Line) (asked : List Exchange) (decisions : List Decision) (table : Table) → IsConfig config
+    → Drives config nothing_active lines asked decisions table → AsksAtMost 34 (turn_of config (table line.conn) line)
 
 -- A share makes at most 3 calls to each zone for each of its lines.
 abbrev pub RoomsLaw : Type 0

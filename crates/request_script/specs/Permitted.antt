@@ -1,5 +1,7 @@
 -- What a share may ask of a zone, after what it asked of that zone and was answered: what the zones permit their callers.
-use Rattle.std.specs.Prelude.{ℕ, ◌<◌, nat_eq, List, sum_by, count_by, Bool}
+use Rattle.std.specs.Prelude.{ℕ, ◌<◌, nat_eq, List, slice_get, sum_by, count_by, Bool}
+use Rattle.zone_config.specs.declared.data.ZoneSpec.{ZoneSpec}
+use Rattle.zone_config.specs.Conditions.{IsReqZone, IsConnZone, IsSomePeerZone}
 use Rattle.req_zone.specs.declared.calls.ReqCall.{ReqCall}
 use Rattle.req_zone.specs.declared.calls.ReqCall.TheVariants.{Check, Account, Release}
 use Rattle.req_zone.specs.declared.calls.ReqReply.{ReqReply}
@@ -49,6 +51,12 @@ abbrev pub MayAsk : List Exchange → ZoneCall → Type 0
 MayAsk past (to.Req zone call) = ReqPermits (req_part zone past) call
 MayAsk past (to.Conn zone call) = ConnPermits (conn_part zone past) call
 MayAsk past (to.Peer zone call) = PeerPermits (peer_part zone past) call
+
+-- a call goes to a zone of its kind
+abbrev pub IsOfKind : List ZoneSpec → ZoneCall → Type 0
+IsOfKind zones (to.Req zone call) = IsReqZone (slice_get zones zone)
+IsOfKind zones (to.Conn zone call) = IsConnZone (slice_get zones zone)
+IsOfKind zones (to.Peer zone call) = IsSomePeerZone (slice_get zones zone)
 
 -- whether a call goes to zone z
 abbrev pub is_to : ℕ → ZoneCall → Bool

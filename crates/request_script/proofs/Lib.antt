@@ -1,0 +1,6 @@
+pub mod Totals
+pub mod Priced
+pub mod PricedLimits
+pub mod PricedTurns
+pub mod PricedDrives
+pub mod PriceLaws
