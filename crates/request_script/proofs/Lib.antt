@@ -4,3 +4,5 @@ pub mod PricedLimits
 pub mod PricedTurns
 pub mod PricedDrives
 pub mod PriceLaws
+pub mod Held
+pub mod Exchanges
