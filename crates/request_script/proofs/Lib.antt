@@ -6,3 +6,5 @@ pub mod PricedDrives
 pub mod PriceLaws
 pub mod Held
 pub mod Exchanges
+pub mod Permitting
+pub mod PermittedLimits

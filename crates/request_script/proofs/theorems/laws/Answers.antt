@@ -1,5 +1,5 @@
 use Rattle.request_script.proofs.PriceLaws.{ends-law, kinds-law, rooms-law}
-use Rattle.request_script.proofs.Exchanges.{free-takes}
+use Rattle.request_script.proofs.PermittedLimits.{frees-run}
 use Rattle.request_script.proofs.theorems.laws.Goals as goal
 
 pub returns : goal.returns
