@@ -124,3 +124,7 @@ module _ (past : List Exchange) (call : ZoneCall) (reply : ZoneReply) where
 -- the order doesn't count, nor what is let go without being given back
 pub has-fewer : (past : List Exchange) (things fewer : List Thing) → ((t : Thing) → times t fewer ≤ times t things) → Has past things → Has past fewer
 has-fewer past things fewer less has t = let here = has t in let l = less t in omega (arith, here, l)
+
+-- of things that are held those behind others are held
+pub has-rest : (past : List Exchange) (things rest : List Thing) → Has past (things ++ rest) → Has past rest
+has-rest past things rest has = has-fewer past (things ++ rest) rest (λ t. let all = total-append (once t) things rest in omega (arith, all)) has

@@ -8,3 +8,5 @@ pub mod Held
 pub mod Exchanges
 pub mod Permitting
 pub mod PermittedLimits
+pub mod PermittedTurns
+pub mod PermittedDrives
