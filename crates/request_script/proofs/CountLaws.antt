@@ -1,13 +1,12 @@
 -- A zone is asked at most 3 times for a line, and all zones together at most 32 times.
-use Rattle.std.proofs.Common.{◌≡◌, ℕ, ◌+◌, ◌*◌, ◌<◌, ◌≤◌, Bool, if◌then◌else◌, nat_eq, List, [], ◌∷◌, ◌++◌, length, Option, Some, None, refl, ap, ◌∙◌, arith}
+use Rattle.std.proofs.Common.{◌≡◌, ℕ, ◌≤◌, Bool, if◌then◌else◌, List, [], ◌∷◌, ◌++◌, length, Option, Some, None, refl, ap, ◌∙◌, arith}
 use Rattle.std.proofs.lemmas.Bool.{eq-eqb}
-use Rattle.zone_config.specs.declared.data.Config.{Config}
 use Rattle.zone_config.specs.declared.data.Level.{Level}
 use Rattle.zone_config.specs.declared.data.ZoneSpec.{ZoneSpec}
 use Rattle.zone_config.specs.Conditions.{IsLevel}
 use Rattle.request_script.specs.declared.call.ZoneCall.{ZoneCall}
 use Rattle.request_script.specs.declared.call.ZoneCall.TheVariants as to
-use Rattle.request_script.specs.Turn.{Turn, Exchange, Leads}
+use Rattle.request_script.specs.Turn.{Exchange}
 use Rattle.request_script.specs.Turn.Turn.{asks}
 use Rattle.request_script.specs.Drive.{nothing_active}
 use Rattle.request_script.specs.Permitted.{is_to, zone_of, calls_to}

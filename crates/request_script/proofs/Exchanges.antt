@@ -1,5 +1,5 @@
 -- What each kind of call gives and gives back.
-use Rattle.std.proofs.Common.{◌≡◌, ℕ, ◌≤◌, Bool, true, false, nat_eq, if◌then◌else◌, Option, Some, None, refl, arith}
+use Rattle.std.proofs.Common.{ℕ, ◌≤◌, Bool, true, false, nat_eq, if◌then◌else◌, Some, None, arith}
 use Rattle.req_zone.specs.declared.calls.ReqCall.{ReqCall}
 use Rattle.req_zone.specs.declared.calls.ReqCall.TheVariants.{Check, Account, Release}
 use Rattle.req_zone.specs.declared.calls.ReqReply.{ReqReply}

@@ -1,11 +1,9 @@
 -- How a share goes on, by a reply and by a line.
-use Rattle.std.proofs.Common.{◌≡◌, List, [], ◌∷◌, ◌++◌, Option, refl, ap, subst, sym, append_assoc}
+use Rattle.std.proofs.Common.{[], ◌∷◌, ◌++◌, refl, subst, sym, append_assoc}
 use Rattle.std.proofs.lemmas.List.{append-nil}
-use Rattle.request_script.specs.declared.call.ZoneCall.{ZoneCall}
-use Rattle.request_script.specs.declared.call.ZoneReply.{ZoneReply}
-use Rattle.request_script.specs.Turn.{Turn, Exchange, Leads}
+use Rattle.request_script.specs.Turn.{Turn, Leads}
 use Rattle.request_script.specs.Turn.Turn.{asks, decides}
-use Rattle.request_script.specs.Drive.{Table, with_active, Drives}
+use Rattle.request_script.specs.Drive.{with_active, Drives}
 use Rattle.request_script.specs.Drive.Drives.{at_end, line}
 use Rattle.request_script.specs.Laws.{ExchangeLaw, LineLaw}
 

@@ -1,6 +1,5 @@
 -- Each call goes to a zone of its kind: a call to another would cost 1, and none costs anything.
-use Rattle.std.proofs.Common.{◌≡◌, ℕ, ◌+◌, ◌*◌, ◌≤◌, Bool, true, false, if◌then◌else◌, List, Option, Some, None, refl, ap, slice_get, IfSome, arith}
-use Rattle.zone_config.specs.declared.data.Config.{Config}
+use Rattle.std.proofs.Common.{◌≡◌, ℕ, ◌≤◌, Bool, true, false, if◌then◌else◌, List, Option, Some, None, refl, ap, slice_get, IfSome, arith}
 use Rattle.zone_config.specs.declared.data.Level.{Level}
 use Rattle.zone_config.specs.declared.data.ReqLimit.{ReqLimit}
 use Rattle.zone_config.specs.declared.data.ConnLimit.{ConnLimit}

@@ -1,15 +1,15 @@
 -- A level names no zone twice.
-use Rattle.std.proofs.Common.{◌≡◌, ℕ, ◌+◌, ◌<◌, ◌≤◌, Bool, true, false, List, [], ◌∷◌, length, Option, Some, None, refl, ap, sym, ◌∙◌, true≢false, slice_get, All, IfSome, arith}
+use Rattle.std.proofs.Common.{◌≡◌, ℕ, ◌+◌, ◌<◌, ◌≤◌, Bool, true, false, List, length, Option, Some, None, refl, ap, sym, ◌∙◌, true≢false, slice_get, All, IfSome, arith}
 use Rattle.std.proofs.lemmas.Option.{slice_get_within}
 use Rattle.zone_config.specs.declared.data.Level.{Level}
 use Rattle.zone_config.specs.declared.data.ReqLimit.{ReqLimit}
 use Rattle.zone_config.specs.declared.data.ConnLimit.{ConnLimit}
 use Rattle.zone_config.specs.declared.data.ZoneSpec.{ZoneSpec}
 use Rattle.zone_config.specs.declared.data.ZoneSpec.TheVariants.{Req, Conn, Peer}
-use Rattle.zone_config.specs.Conditions.{IsLevel, IsReqLimit, IsConnLimit, IsReqZone, IsConnZone, IsSomePeerZone}
+use Rattle.zone_config.specs.Conditions.{IsLevel, IsReqLimit, IsConnLimit, IsSomePeerZone}
 use Rattle.request_script.proofs.Totals.{weigh}
 use Rattle.request_script.proofs.ZoneKinds.{is_req, is_conn, is_peer, req-tells, conn-tells, peer-tells}
-use Rattle.request_script.proofs.Named.{once, once-other, once-most, total-none, named, named-once, below, below-none, below-sum, below-most, below-once, below-named}
+use Rattle.request_script.proofs.Named.{once, once-other, once-most, total-none, named-once, below, below-none, below-sum, below-most, below-once, below-named}
 use Rattle.request_script.proofs.PricedLimits.{of_reqs, of_conns}
 
 module _ (zones : List ZoneSpec) (z : ℕ) where

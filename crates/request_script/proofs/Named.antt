@@ -1,5 +1,5 @@
 -- How often elements name a number.
-use Rattle.std.proofs.Common.{◌≡◌, ℕ, zero, suc, ◌+◌, ◌<◌, ◌≤◌, ◌≢◌, Bool, true, false, nat_eq, if◌then◌else◌, List, [], ◌∷◌, length, refl, sym, ap, ◌∙◌, All, AllPairs, arith}
+use Rattle.std.proofs.Common.{◌≡◌, ℕ, zero, suc, ◌+◌, ◌<◌, ◌≤◌, ◌≢◌, Bool, true, false, nat_eq, if◌then◌else◌, List, [], ◌∷◌, length, refl, sym, ◌∙◌, All, AllPairs, arith}
 use Rattle.std.proofs.lemmas.Bool.{eqb-true, eqb-false}
 use Rattle.std.proofs.lemmas.List.Elements.{All-head, All-tail}
 use Rattle.request_script.proofs.Totals.{total}
@@ -42,12 +42,12 @@ module _ {X : Type 0} (number_of : X → ℕ) where
   named-once z [] pairs = omega arith
   named-once z (x ∷ xs) pairs =
       go (named-once z xs (pairs-rest (λ a b. number_of a ≢ number_of b) x xs pairs)) (nat_eq (number_of x) z) refl where
-    go : named z xs ≤ 1 → (b : Bool) → nat_eq (number_of x) z ≡ b → (if b then 1 else 0) + named z xs ≤ 1
-    go later true is =
-        let same = eqb-true (number_of x) z is in
-        let none = total-none (λ (y : X). once z (number_of y)) (λ (y : X). number_of x ≢ number_of y) (λ y apart. once-other z (number_of y) (λ e. apart (same ∙ sym e))) xs (pairs-first (λ a b. number_of a ≢ number_of b) x xs pairs) in
-        omega (arith, none)
-    go later false is = omega (arith, later)
+        go : named z xs ≤ 1 → (b : Bool) → nat_eq (number_of x) z ≡ b → (if b then 1 else 0) + named z xs ≤ 1
+        go later true is =
+            let same = eqb-true (number_of x) z is in
+            let none = total-none (λ (y : X). once z (number_of y)) (λ (y : X). number_of x ≢ number_of y) (λ y apart. once-other z (number_of y) (λ e. apart (same ∙ sym e))) xs (pairs-first (λ a b. number_of a ≢ number_of b) x xs pairs) in
+            omega (arith, none)
+        go later false is = omega (arith, later)
 
 -- ---- sums over all numbers below n
 

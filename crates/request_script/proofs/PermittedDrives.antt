@@ -1,15 +1,15 @@
 -- What a share has is what its active requests hold, and each of its calls is permitted.
-use Rattle.std.proofs.Common.{◌≡◌, ℕ, ◌+◌, ◌≤◌, ◌≢◌, Bool, true, false, nat_eq, if◌then◌else◌, List, [], ◌∷◌, ◌++◌, length, All, Option, Some, None, refl, sym, ap, ◌∙◌, true≢false, subst, append_assoc, arith}
+use Rattle.std.proofs.Common.{◌≡◌, ℕ, ◌+◌, ◌≤◌, Bool, true, false, nat_eq, if◌then◌else◌, List, [], ◌∷◌, ◌++◌, length, All, Option, Some, None, refl, sym, ap, ◌∙◌, subst, append_assoc, arith}
 use Rattle.std.proofs.lemmas.List.{append-nil}
 use Rattle.std.proofs.lemmas.List.Elements.{All-head, All-tail}
-use Rattle.std.proofs.lemmas.Bool.{eqb-true, eq-eqb}
+use Rattle.std.proofs.lemmas.Bool.{eqb-true}
 use Rattle.zone_config.specs.declared.data.Config.{Config}
 use Rattle.zone_config.specs.Conditions.{IsConfig}
 use Rattle.replay_log.specs.declared.line.Line.{Line}
 use Rattle.replay_log.specs.Limits.{IsLineOf}
 use Rattle.request_script.specs.declared.active.Active.{Active}
 use Rattle.request_script.specs.declared.decision.Decision.{Decision}
-use Rattle.request_script.specs.Turn.{Turn, Exchange, Leads}
+use Rattle.request_script.specs.Turn.{Exchange}
 use Rattle.request_script.specs.Turn.Turn.{asks, decides}
 use Rattle.request_script.specs.Steps.{turn_of}
 use Rattle.request_script.specs.Drive.{Table, with_active, nothing_active, Drives}

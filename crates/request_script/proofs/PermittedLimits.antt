@@ -1,20 +1,17 @@
 -- The calls of the limits of a level and of the choice of a server are permitted.
-use Rattle.std.proofs.Common.{◌≡◌, ℕ, ◌+◌, ◌/◌, ◌<◌, ◌≤◌, ◌^◌, Bool, ◌&&◌, nat_eq, if◌then◌else◌, List, [], ◌∷◌, ◌++◌, map, reverse, length, All, Option, Some, None, refl, arith}
+use Rattle.std.proofs.Common.{ℕ, ◌<◌, ◌≤◌, ◌^◌, Bool, ◌&&◌, nat_eq, if◌then◌else◌, List, [], ◌∷◌, ◌++◌, map, reverse, length, All, Option, arith}
 use Rattle.std.proofs.lemmas.List.Elements.{All-head, All-tail}
 use Rattle.zone_key.specs.declared.vars.Vars.{Vars}
 use Rattle.zone_config.specs.declared.data.Config.{Config}
 use Rattle.zone_config.specs.declared.data.ReqLimit.{ReqLimit}
 use Rattle.zone_config.specs.declared.data.ConnLimit.{ConnLimit}
-use Rattle.zone_config.specs.Conditions.{IsReqLimit, IsConnLimit}
+use Rattle.zone_config.specs.Conditions.{IsConnLimit}
 use Rattle.req_zone.specs.declared.calls.ReqCall.TheVariants.{Check, Account, Release}
-use Rattle.req_zone.specs.declared.calls.ReqReply.{ReqReply}
 use Rattle.req_zone.specs.declared.calls.ReqReply.TheVariants.{Pass, Again, Busy, NoRoom, Accounted, Released}
 use Rattle.req_zone.specs.Amount.{IsMoment}
 use Rattle.conn_zone.specs.declared.calls.ConnCall.TheVariants as call
-use Rattle.conn_zone.specs.declared.calls.ConnReply.{ConnReply}
 use Rattle.conn_zone.specs.declared.calls.ConnReply.TheVariants as conn
 use Rattle.peer_zone.specs.declared.calls.PeerCall.TheVariants.{Choose, Free}
-use Rattle.peer_zone.specs.declared.calls.PeerReply.{PeerReply}
 use Rattle.peer_zone.specs.declared.calls.PeerReply.TheVariants as peer
 use Rattle.request_script.specs.declared.active.Active.{Active}
 use Rattle.request_script.specs.declared.active.Opened.{Opened}
@@ -32,8 +29,8 @@ use Rattle.request_script.specs.Zones.{key_of, is_skipped, has_backups}
 use Rattle.request_script.specs.ReqLimits.{accounted, after_check, accounts, allowed_of, delay_by, greater, is_last, no_delay, releases, req_reply, req_walk, unset, walk_ends}
 use Rattle.request_script.specs.ConnLimits.{after_open, closes, conn_passed, conn_refused, conn_reply, conn_walk, opened_in}
 use Rattle.request_script.specs.Peers.{after_choice, asks_list, chooses, frees, index_in, peer_reply, seconds, taken_at}
-use Rattle.request_script.proofs.Totals.{total, total-append, total-map, total-reverse}
-use Rattle.request_script.proofs.Held.{Thing, Has, times, once, with_one, has-same, has-more, has-less, has-fewer, holds-entry, holds-connection, holds-peer}
+use Rattle.request_script.proofs.Totals.{total-append, total-map, total-reverse}
+use Rattle.request_script.proofs.Held.{Thing, Has, once, with_one, has-same, has-more, has-less, has-fewer, holds-entry, holds-connection, holds-peer}
 use Rattle.request_script.proofs.Held.Thing.{hold, connection, server}
 use Rattle.request_script.proofs.Exchanges.{check-takes, again-gives, account-takes, release-takes, open-takes, opened-gives, close-takes, choose-takes, peer-gives, free-takes}
 use Rattle.request_script.proofs.Permitting.{Runs, if-runs, unskipped}
@@ -71,27 +68,33 @@ module _ (Ends : List Exchange → Option Active → Type 0) where
 
   releases-run : (holds : List Hold) (rest : List Thing) (behind : Turn) → Goes rest behind → Goes (map hold_of holds ++ rest) (releases holds behind)
   releases-run [] rest behind goes past has = goes past has
-  releases-run (held ∷ holds) rest behind goes past has =
-      (holds-entry past held.zone held.at (map hold_of holds ++ rest) has, λ reply.
-      releases-run holds rest behind goes (with_one past (to.Req held.zone (Release held.at)) reply)
-      (has-less past (to.Req held.zone (Release held.at)) reply (hold_of held) (map hold_of holds ++ rest) (release-takes held.zone held.at reply) has))
+  releases-run (held ∷ holds) rest behind goes past has = (
+    holds-entry past held.zone held.at (map hold_of holds ++ rest) has,
+    λ reply.
+        releases-run holds rest behind goes (with_one past (to.Req held.zone (Release held.at)) reply)
+        (has-less past (to.Req held.zone (Release held.at)) reply (hold_of held) (map hold_of holds ++ rest) (release-takes held.zone held.at reply) has),
+  )
 
   pub closes-run : (opened : List Opened) (rest : List Thing) (behind : Turn) → Goes rest behind → Goes (map connection_of opened ++ rest) (closes opened behind)
   closes-run [] rest behind goes past has = goes past has
-  closes-run (one ∷ more) rest behind goes past has =
-      (holds-connection past one.zone one.at (map connection_of more ++ rest) has, λ reply.
-      closes-run more rest behind goes (with_one past (to.Conn one.zone (call.Close one.at)) reply)
-      (has-less past (to.Conn one.zone (call.Close one.at)) reply (connection_of one) (map connection_of more ++ rest) (close-takes one.zone one.at reply) has))
+  closes-run (one ∷ more) rest behind goes past has = (
+    holds-connection past one.zone one.at (map connection_of more ++ rest) has,
+    λ reply.
+        closes-run more rest behind goes (with_one past (to.Conn one.zone (call.Close one.at)) reply)
+        (has-less past (to.Conn one.zone (call.Close one.at)) reply (connection_of one) (map connection_of more ++ rest) (close-takes one.zone one.at reply) has),
+  )
 
   -- ---- limits of requests
 
   module _ (config : Config) (now : ℕ) (early : IsMoment now) (vars : Vars) (dry : Bool) (rest : List Thing) (behind : ReqSaid → Turn) (goes : (said : ReqSaid) → Goes rest (behind said)) where
     accounts-run : (holds : List Hold) (greatest : Delay) → Goes (map hold_of holds ++ rest) (accounts config now vars dry greatest holds behind)
     accounts-run [] greatest past has = goes _ past has
-    accounts-run (held ∷ holds) greatest past has =
-        ((early, holds-entry past held.zone held.at (map hold_of holds ++ rest) has), λ reply.
-        accounts-run holds (greater greatest (delay_by config held.zone held.allowed (accounted (req_reply reply)))) (with_one past (to.Req held.zone (Account held.at now)) reply)
-        (has-less past (to.Req held.zone (Account held.at now)) reply (hold_of held) (map hold_of holds ++ rest) (account-takes held.zone held.at now reply) has))
+    accounts-run (held ∷ holds) greatest past has = (
+      (early, holds-entry past held.zone held.at (map hold_of holds ++ rest) has),
+      λ reply.
+          accounts-run holds (greater greatest (delay_by config held.zone held.allowed (accounted (req_reply reply)))) (with_one past (to.Req held.zone (Account held.at now)) reply)
+          (has-less past (to.Req held.zone (Account held.at now)) reply (hold_of held) (map hold_of holds ++ rest) (account-takes held.zone held.at now reply) has),
+    )
 
     ends-run : (holds : List Hold) → Goes (map hold_of holds ++ rest) (walk_ends config now vars dry holds behind)
     ends-run [] past has = goes unset past has
@@ -104,10 +107,13 @@ module _ (Ends : List Exchange → Option Active → Type 0) where
     check-run limit holds last goes_on walks past has reply = go reply where
       asked : ZoneCall
       asked = to.Req limit.zone (Check (key_of config vars limit.zone) now limit.burst last)
+
       after : (reply : ZoneReply) → Has (with_one past asked reply) (map hold_of holds ++ rest)
       after reply = has-same past asked reply (map hold_of holds ++ rest) (check-takes limit.zone (key_of config vars limit.zone) now limit.burst last reply) has
+
       lets_go : (reply : ZoneReply) (said : ReqSaid) → Runs Ends (with_one past asked reply) (releases (reverse holds) (behind said))
       lets_go reply said = releases-run (reverse holds) rest (behind said) (goes said) (with_one past asked reply) (has-turned hold_of holds rest (with_one past asked reply) (after reply))
+
       go : (reply : ZoneReply) → Runs Ends (with_one past asked reply) (after_check config now vars dry limit holds goes_on behind (req_reply reply))
       go (from.Req (Again value at)) =
           let one : Hold = record { zone = limit.zone; at = at; allowed = allowed_of limit } in
@@ -130,9 +136,11 @@ module _ (Ends : List Exchange → Option Active → Type 0) where
     reqs-run (limit ∷ limits) holds small past has =
         let later = All-tail (λ (limit : ReqLimit). limit.burst ≤ 1000000000) limit limits small in
         if-runs Ends (is_skipped 65535 (key_of config vars limit.zone)) past _ _ (reqs-run limits holds later past has) (λ is.
-        let named = unskipped 65535 (length (key_of config vars limit.zone)) is in let some = named.0 in let few = named.1 in
-        (record { named = (some, omega (arith, few)); early = early; small = All-head (λ (limit : ReqLimit). limit.burst ≤ 1000000000) limit limits small }, λ reply.
-        check-run limit holds (is_last limits) (λ more. req_walk config now vars dry more limits behind) (λ more. reqs-run limits more later) past has reply))
+        let named = unskipped 65535 (length (key_of config vars limit.zone)) is in let some = named.0 in let few = named.1 in (
+          record { named = (some, omega (arith, few)); early = early; small = All-head (λ (limit : ReqLimit). limit.burst ≤ 1000000000) limit limits small },
+          λ reply.
+              check-run limit holds (is_last limits) (λ more. req_walk config now vars dry more limits behind) (λ more. reqs-run limits more later) past has reply,
+        ))
 
   -- ---- limits of connections
 
@@ -144,9 +152,11 @@ module _ (Ends : List Exchange → Option Active → Type 0) where
     open-run limit opened goes_on walks past has reply = go reply where
       asked : ZoneCall
       asked = to.Conn limit.zone (call.Open (key_of config vars limit.zone) limit.limit)
+
       shuts : (reply : ZoneReply) → Runs Ends (with_one past asked reply) (closes (reverse opened) (behind (conn_refused dry limit.zone) []))
       shuts reply = closes-run (reverse opened) rest (behind (conn_refused dry limit.zone) []) (goes (conn_refused dry limit.zone) []) (with_one past asked reply)
           (has-turned connection_of opened rest (with_one past asked reply) (has-same past asked reply (map connection_of opened ++ rest) (open-takes limit.zone (key_of config vars limit.zone) limit.limit reply) has))
+
       go : (reply : ZoneReply) → Runs Ends (with_one past asked reply) (after_open config vars dry limit opened goes_on behind (opened_in (conn_reply reply)))
       go (from.Conn (conn.Opened at count)) =
           let one : Opened = record { zone = limit.zone; at = at } in
@@ -166,9 +176,11 @@ module _ (Ends : List Exchange → Option Active → Type 0) where
         let later = All-tail (IsConnLimit zones) limit limits are in let own = All-head (IsConnLimit zones) limit limits are in
         if-runs Ends (is_skipped 255 (key_of config vars limit.zone)) past _ _ (conns-run zones limits opened later past has) (λ is.
         let named = unskipped 255 (length (key_of config vars limit.zone)) is in let some = named.0 in let few = named.1 in
-        let within = own.limit in let least = within.0 in let most = within.1 in
-        (((some, omega (arith, few)), (omega (arith, least), omega (arith, most))), λ reply.
-        open-run limit opened (λ more. conn_walk config vars dry more limits behind) (λ more. conns-run zones limits more later) past has reply))
+        let within = own.limit in let least = within.0 in let most = within.1 in (
+          ((some, omega (arith, few)), (omega (arith, least), omega (arith, most))),
+          λ reply.
+              open-run limit opened (λ more. conn_walk config vars dry more limits behind) (λ more. conns-run zones limits more later) past has reply,
+        ))
 
   -- ---- servers
 
@@ -180,8 +192,10 @@ module _ (Ends : List Exchange → Option Active → Type 0) where
     list-run zone list tried found none two goes ends past has = ((two, early-seconds), go) where
       asked : ZoneCall
       asked = to.Peer zone (Choose list tried (seconds now))
+
       nobody : (reply : ZoneReply) → Runs Ends (with_one past asked reply) none
       nobody reply = ends (with_one past asked reply) (has-same past asked reply rest (choose-takes zone list tried (seconds now) reply) has)
+
       go : (reply : ZoneReply) → Runs Ends (with_one past asked reply) (after_choice found none (index_in (peer_reply reply)))
       go (from.Peer (peer.Peer index)) =
           goes index (with_one past asked (from.Peer (peer.Peer index)))
@@ -202,7 +216,9 @@ module _ (Ends : List Exchange → Option Active → Type 0) where
         (λ _. ends later have)) past has
 
     pub frees-run : (taken : Taken) (failed : Bool) (behind : Turn) → taken.list < 2 → Goes rest behind → Goes (server_of taken ∷ rest) (frees now taken failed behind)
-    frees-run taken failed behind two goes past has =
-        ((two, early-seconds, holds-peer past taken.zone taken.list taken.index rest has), λ reply.
-        goes (with_one past (to.Peer taken.zone (Free taken.list taken.index failed (seconds now))) reply)
-        (has-less past (to.Peer taken.zone (Free taken.list taken.index failed (seconds now))) reply (server_of taken) rest (free-takes taken.zone taken.list taken.index failed (seconds now) reply) has))
+    frees-run taken failed behind two goes past has = (
+      (two, early-seconds, holds-peer past taken.zone taken.list taken.index rest has),
+      λ reply.
+          goes (with_one past (to.Peer taken.zone (Free taken.list taken.index failed (seconds now))) reply)
+          (has-less past (to.Peer taken.zone (Free taken.list taken.index failed (seconds now))) reply (server_of taken) rest (free-takes taken.zone taken.list taken.index failed (seconds now) reply) has),
+    )

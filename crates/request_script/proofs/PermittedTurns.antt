@@ -1,5 +1,5 @@
 -- The calls of the turn of a line are permitted.
-use Rattle.std.proofs.Common.{◌≡◌, ℕ, ◌<◌, ◌≤◌, true, false, nat_lt, List, [], ◌∷◌, ◌++◌, map, reverse, All, IfSome, Option, Some, None, refl, arith}
+use Rattle.std.proofs.Common.{ℕ, ◌<◌, ◌≤◌, true, false, nat_lt, List, [], ◌∷◌, ◌++◌, map, reverse, All, IfSome, Option, Some, None, arith}
 use Rattle.zone_key.specs.declared.vars.Vars.{Vars}
 use Rattle.zone_config.specs.declared.data.Config.{Config}
 use Rattle.zone_config.specs.declared.data.Level.{Level}
@@ -21,9 +21,9 @@ use Rattle.request_script.specs.Turn.Turn.{decides}
 use Rattle.request_script.specs.Zones.{level_at, servers_up}
 use Rattle.request_script.specs.ConnLimits.{closes}
 use Rattle.request_script.specs.Peers.{chooses, frees, peer_of, tries_left}
-use Rattle.request_script.specs.Steps.{active_turn, after_conns, after_reqs, ends, fails, fails_whole, idle_turn, is_conn_refusal, is_req_refusal, opens, peer_step, started, tries_next, turn_of}
+use Rattle.request_script.specs.Steps.{active_turn, after_conns, after_reqs, fails_whole, idle_turn, is_conn_refusal, is_req_refusal, opens, started, tries_next, turn_of}
 use Rattle.request_script.proofs.Held.{Thing, Has, has-rest}
-use Rattle.request_script.proofs.Permitting.{Runs, if-runs}
+use Rattle.request_script.proofs.Permitting.{if-runs}
 use Rattle.request_script.proofs.PermittedLimits.{Goes, connection_of, server_of, has-turned, closes-run, reqs-run, conns-run, chooses-run, frees-run}
 use Rattle.request_script.proofs.PricedTurns.{level-is}
 

@@ -1,5 +1,5 @@
 -- What the lines of a share cost.
-use Rattle.std.proofs.Common.{◌≡◌, ℕ, ◌+◌, ◌*◌, ◌≤◌, Bool, true, false, nat_eq, if◌then◌else◌, List, [], ◌∷◌, ◌++◌, length, Option, Some, None, refl, arith}
+use Rattle.std.proofs.Common.{ℕ, ◌+◌, ◌*◌, ◌≤◌, Bool, true, false, nat_eq, if◌then◌else◌, List, length, Option, arith}
 use Rattle.zone_config.specs.declared.data.Config.{Config}
 use Rattle.zone_config.specs.declared.data.Level.{Level}
 use Rattle.zone_config.specs.Conditions.{IsConfig, IsLevel}
@@ -11,7 +11,7 @@ use Rattle.request_script.specs.Turn.Turn.{decides}
 use Rattle.request_script.specs.Steps.{turn_of}
 use Rattle.request_script.specs.Drive.{Table, with_active, nothing_active, Drives}
 use Rattle.request_script.specs.Drive.Drives.{at_end, line}
-use Rattle.request_script.proofs.Totals.{total, total-append}
+use Rattle.request_script.proofs.Totals.{total-append}
 use Rattle.request_script.proofs.Priced.{Prices, price, spent_by, Within, within-leads, within-spent}
 use Rattle.request_script.proofs.PricedTurns.{IsOfSome, IsAfforded, turn-within}
 

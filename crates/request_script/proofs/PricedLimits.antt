@@ -87,11 +87,13 @@ module _ (p : Prices) (bound : ℕ) (Ends : Option Active → Type 0) where
     reqs-within [] holds rest behind goes spent fits = ends-within holds rest behind goes spent (omega (arith, fits))
     reqs-within (limit ∷ limits) holds rest behind goes spent fits =
         if-within p bound Ends (is_skipped 65535 (key_of config vars limit.zone)) spent _ _
-        (reqs-within limits holds rest behind goes spent (omega (arith, fits)))
-        (omega (arith, fits), λ reply.
-        check-within limit holds (2 * of_reqs p.req limits) rest (λ more. req_walk config now vars dry more limits behind) behind
-        (λ more after fit. reqs-within limits more rest behind goes after (omega (arith, fit)))
-        goes (req_reply reply) (spent + p.req limit.zone) (omega (arith, fits)))
+        (reqs-within limits holds rest behind goes spent (omega (arith, fits))) (
+          omega (arith, fits),
+          λ reply.
+              check-within limit holds (2 * of_reqs p.req limits) rest (λ more. req_walk config now vars dry more limits behind) behind
+              (λ more after fit. reqs-within limits more rest behind goes after (omega (arith, fit)))
+              goes (req_reply reply) (spent + p.req limit.zone) (omega (arith, fits)),
+        )
 
   -- ---- limits of connections
 
@@ -123,11 +125,13 @@ module _ (p : Prices) (bound : ℕ) (Ends : Option Active → Type 0) where
     conns-within [] opened rest behind goes of spent fits = goes (conn_passed opened) opened spent of (omega (arith, fits))
     conns-within (limit ∷ limits) opened rest behind goes of spent fits =
         if-within p bound Ends (is_skipped 255 (key_of config vars limit.zone)) spent _ _
-        (conns-within limits opened rest behind goes (λ q. let o = of q in omega (arith, o)) spent (omega (arith, fits)))
-        (omega (arith, fits), λ reply.
-        open-within limit opened limits rest (λ more. conn_walk config vars dry more limits behind) behind
-        (λ more after are fit. conns-within limits more rest behind goes are after fit)
-        goes of (opened_in (conn_reply reply)) (spent + p.conn limit.zone) (omega (arith, fits)))
+        (conns-within limits opened rest behind goes (λ q. let o = of q in omega (arith, o)) spent (omega (arith, fits))) (
+          omega (arith, fits),
+          λ reply.
+              open-within limit opened limits rest (λ more. conn_walk config vars dry more limits behind) behind
+              (λ more after are fit. conns-within limits more rest behind goes are after fit)
+              goes of (opened_in (conn_reply reply)) (spent + p.conn limit.zone) (omega (arith, fits)),
+        )
 
   -- ---- servers
 

@@ -13,16 +13,15 @@ use Rattle.request_script.specs.declared.active.Active.{Active}
 use Rattle.request_script.specs.declared.active.Opened.{Opened}
 use Rattle.request_script.specs.declared.active.Taken.{Taken}
 use Rattle.request_script.specs.declared.decision.ConnStatus.{ConnStatus}
-use Rattle.request_script.specs.declared.decision.ConnStatus.TheVariants as conn
-use Rattle.request_script.specs.declared.decision.Decision.TheVariants.{NextPeer, FailGateway, Ended}
-use Rattle.request_script.specs.declared.decision.Outcome.TheVariants.{Pass, Limited, Gateway}
+use Rattle.request_script.specs.declared.decision.Decision.TheVariants.{NextPeer, Ended}
+use Rattle.request_script.specs.declared.decision.Outcome.TheVariants.{Pass, Gateway}
 use Rattle.request_script.specs.declared.said.ReqSaid.{ReqSaid}
 use Rattle.request_script.specs.Turn.{Turn}
-use Rattle.request_script.specs.Turn.Turn.{asks, decides}
+use Rattle.request_script.specs.Turn.Turn.{decides}
 use Rattle.request_script.specs.Zones.{level_at, servers_up}
 use Rattle.request_script.specs.ConnLimits.{closes}
 use Rattle.request_script.specs.Peers.{chooses, frees, peer_of, tries_left}
-use Rattle.request_script.specs.Steps.{active_turn, after_conns, after_reqs, ends, fails, fails_whole, idle_turn, is_conn_refusal, is_req_refusal, opens, peer_step, started, tries_next, turn_of}
+use Rattle.request_script.specs.Steps.{active_turn, after_conns, after_reqs, fails_whole, idle_turn, is_conn_refusal, is_req_refusal, opens, started, tries_next, turn_of}
 use Rattle.request_script.proofs.Totals.{weigh, total-reverse}
 use Rattle.request_script.proofs.Priced.{Prices, Within, if-within}
 use Rattle.request_script.proofs.PricedLimits.{of_reqs, of_conns, of_opened, closes-within, reqs-within, conns-within, chooses-within}
