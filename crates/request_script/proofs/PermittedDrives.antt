@@ -141,6 +141,6 @@ module _ (config : Config) (is : IsConfig config) where
       (drives-held (with_active table one.conn active) lines more decisions last drives (All-tail (IsLineOf (length config.locations)) one lines of) (past ++ asked) after)
 
 pub permits-law : PermitsLaw
-permits-law config lines one asked decisions table is of own drives since call next leads =
+permits-law config lines one asked decisions table is drives of own since call next leads =
     let held = drives-held config is nothing_active lines asked decisions table drives of [] held-nothing in
     (runs-leads (Leaves (held_by (without one.conn held.standing))) (turn_of config (table one.conn) one) asked since (asks call next) (turn-permitted config is table asked held one own) leads).0

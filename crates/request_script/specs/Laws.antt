@@ -40,33 +40,32 @@ AsksAtMost most = AtEachCall (λ since call. length since < most)
 
 -- ---- what holds of a share
 
--- whatever lines of a share were decided and what they asked, P holds of these and of the turn of any next line
-abbrev pub AtNextLine : (Config → List Line → List Exchange → Turn → Type 0) → Type 0
+-- P holds of the lines of a share that were decided, of a next line, of what the lines asked and of the turn of the next one,
+-- whatever was answered.
+abbrev pub AtNextLine : (Config → List Line → Line → List Exchange → Turn → Type 0) → Type 0
 AtNextLine P = (config : Config) (lines : List Line) (next : Line) (asked : List Exchange) (decisions : List Decision) (table : Table) → IsConfig config
-    → Drives config nothing_active lines asked decisions table → P config lines asked (turn_of config (table next.conn) next)
+    → Drives config nothing_active lines asked decisions table → P config lines next asked (turn_of config (table next.conn) next)
 
 -- Each call that a share asks is permitted by what it asked before and was answered.
 abbrev pub PermitsLaw : Type 0
-PermitsLaw = (config : Config) (lines : List Line) (next : Line) (asked : List Exchange) (decisions : List Decision) (table : Table) → IsConfig config
-    → All (IsLineOf (length config.locations)) lines → IsLineOf (length config.locations) next
-    → Drives config nothing_active lines asked decisions table → Permits asked (turn_of config (table next.conn) next)
+PermitsLaw = AtNextLine (λ config lines next asked turn. All (IsLineOf (length config.locations)) lines → IsLineOf (length config.locations) next → Permits asked turn)
 
 -- Each call that a share asks goes to a zone that is there and of its kind.
 abbrev pub KindsLaw : Type 0
-KindsLaw = AtNextLine (λ config lines asked turn. AsksKinds config.zones turn)
+KindsLaw = AtNextLine (λ config lines next asked turn. AsksKinds config.zones turn)
 
 -- A line is decided after at most 32 calls: two for each of 16 zones.
 abbrev pub EndsLaw : Type 0
-EndsLaw = AtNextLine (λ config lines asked turn. AsksAtMost 32 turn)
+EndsLaw = AtNextLine (λ config lines next asked turn. AsksAtMost 32 turn)
 
 -- A share makes at most 3 calls to each zone for each of its lines.
 abbrev pub RoomsLaw : Type 0
 RoomsLaw = (config : Config) (lines : List Line) (asked : List Exchange) (decisions : List Decision) (table : Table) (zone : ℕ) → IsConfig config
     → Drives config nothing_active lines asked decisions table → calls_to zone asked ≤ 3 * length lines
 
--- So there is room for each call where each zone has room for 3 calls for each line, the present one among them.
+-- Each zone has room for the next call where it has room for 3 calls for each line, the present one among them.
 abbrev pub RoomLeftLaw : Type 0
-RoomLeftLaw = AtNextLine (λ config lines asked turn. LeavesRoom asked (3 * (length lines + 1)) turn)
+RoomLeftLaw = AtNextLine (λ config lines next asked turn. LeavesRoom asked (3 * (length lines + 1)) turn)
 
 -- ---- how a share goes on
 
