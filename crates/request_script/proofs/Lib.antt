@@ -2,6 +2,7 @@ pub mod Totals
 pub mod Named
 pub mod Priced
 pub mod PricedLimits
+pub mod TurnParts
 pub mod PricedTurns
 pub mod PricedDrives
 pub mod ZoneKinds

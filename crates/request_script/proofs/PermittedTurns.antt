@@ -20,12 +20,12 @@ use Rattle.request_script.specs.Turn.{Turn, Exchange}
 use Rattle.request_script.specs.Turn.Turn.{decides}
 use Rattle.request_script.specs.Zones.{level_at, servers_up}
 use Rattle.request_script.specs.ConnLimits.{closes}
-use Rattle.request_script.specs.Peers.{chooses, frees, peer_of, tries_left}
+use Rattle.request_script.specs.Peers.{chooses, peer_of, tries_left}
 use Rattle.request_script.specs.Steps.{active_turn, after_conns, after_reqs, fails_whole, idle_turn, is_conn_refusal, is_req_refusal, opens, started, tries_next, turn_of}
 use Rattle.request_script.proofs.Held.{Thing, Has, has-rest}
 use Rattle.request_script.proofs.Permitting.{if-runs}
 use Rattle.request_script.proofs.PermittedLimits.{Goes, connection_of, server_of, has-turned, closes-run, reqs-run, conns-run, chooses-run, frees-run}
-use Rattle.request_script.proofs.PricedTurns.{level-is}
+use Rattle.request_script.proofs.TurnParts.{level-is, step_at, fails_at, ends_at}
 
 -- ---- what active requests hold
 
@@ -59,16 +59,7 @@ module _ (config : Config) (rest : List Thing) where
   Ends = Leaves rest
 
   module _ (now : ℕ) (early : IsMoment now) (vars : Vars) (level : Level) (is : IsLevel config.zones level) where
-    -- the third step, by the level's upstream
-    abbrev step_of : Option ℕ → ReqSaid → ConnStatus → List Opened → Turn
-    step_of peers said conns opened = elim peers [
-      | None ↦ decides (started Pass said conns None) (Some (record { opened = opened; peer = None }))
-      | Some zone ↦ chooses config now zone (servers_up config zone) 0 0
-          (λ taken. decides (started Pass said conns (Some (peer_of taken))) (Some (record { opened = opened; peer = Some taken })))
-          (closes (reverse opened) (decides (started Gateway said conns None) None))
-    ]
-
-    step-run : (said : ReqSaid) (conns : ConnStatus) (opened : List Opened) (peers : Option ℕ) → Goes Ends (map connection_of opened ++ rest) (step_of peers said conns opened)
+    step-run : (said : ReqSaid) (conns : ConnStatus) (opened : List Opened) (peers : Option ℕ) → Goes Ends (map connection_of opened ++ rest) (step_at config now peers said conns opened)
     step-run said conns opened None past has = (has, tt)
     step-run said conns opened (Some zone) past has =
         chooses-run Ends config now early (map connection_of opened ++ rest) zone (servers_up config zone) 0 0
@@ -105,25 +96,14 @@ module _ (config : Config) (rest : List Thing) where
         two (λ next list later have. (have, list)) whole-run past has)
         (λ _. whole-run past has)
 
-    -- a failure, by the server that the request has
-    abbrev fails_of : Option Taken → Turn
-    fails_of peer = elim peer [ None ↦ fails_whole config now active | Some taken ↦ frees now taken true (tries_next config now active taken) ]
-
-    fails-run : (peer : Option Taken) → HasList peer → Goes Ends ((peer_things peer ++ map connection_of active.opened) ++ rest) (fails_of peer)
+    fails-run : (peer : Option Taken) → HasList peer → Goes Ends ((peer_things peer ++ map connection_of active.opened) ++ rest) (fails_at config now active peer)
     fails-run None two past has = whole-run past has
     fails-run (Some taken) two past has = frees-run Ends config now early (map connection_of active.opened ++ rest) taken true (tries_next config now active taken) two (next-run taken two) past has
-
-    -- an end, by the server that the request has
-    abbrev ends_of : Option Taken → Turn
-    ends_of peer = elim peer [
-      | None ↦ closes (reverse active.opened) (decides Ended None)
-      | Some taken ↦ frees now taken false (closes (reverse active.opened) (decides Ended None))
-    ]
 
     shut-run : Goes Ends (map connection_of active.opened ++ rest) (closes (reverse active.opened) (decides Ended None))
     shut-run past has = closes-run Ends (reverse active.opened) rest (decides Ended None) (λ last left. (left, tt)) past (has-turned connection_of active.opened rest past has)
 
-    ends-run : (peer : Option Taken) → HasList peer → Goes Ends ((peer_things peer ++ map connection_of active.opened) ++ rest) (ends_of peer)
+    ends-run : (peer : Option Taken) → HasList peer → Goes Ends ((peer_things peer ++ map connection_of active.opened) ++ rest) (ends_at now active peer)
     ends-run None two past has = shut-run past has
     ends-run (Some taken) two past has = frees-run Ends config now early (map connection_of active.opened ++ rest) taken false (closes (reverse active.opened) (decides Ended None)) two shut-run past has
 

@@ -1,6 +1,5 @@
 -- What the turn of a line costs.
-use Rattle.std.proofs.Common.{◌≡◌, ℕ, zero, suc, ◌+◌, ◌*◌, ◌≤◌, true, false, nat_lt, List, [], ◌∷◌, reverse, Option, Some, None, refl, ap, sym, subst, slice_get, unwrap_or, All, IfSome, arith}
-use Rattle.std.proofs.lemmas.List.Elements.{All-head, All-tail}
+use Rattle.std.proofs.Common.{◌≡◌, ℕ, ◌+◌, ◌*◌, ◌≤◌, nat_lt, List, [], reverse, Option, Some, None, refl, ap, sym, subst, IfSome, arith}
 use Rattle.zone_key.specs.declared.vars.Vars.{Vars}
 use Rattle.zone_config.specs.declared.data.Config.{Config}
 use Rattle.zone_config.specs.declared.data.Level.{Level}
@@ -13,30 +12,19 @@ use Rattle.request_script.specs.declared.active.Active.{Active}
 use Rattle.request_script.specs.declared.active.Opened.{Opened}
 use Rattle.request_script.specs.declared.active.Taken.{Taken}
 use Rattle.request_script.specs.declared.decision.ConnStatus.{ConnStatus}
-use Rattle.request_script.specs.declared.decision.Decision.TheVariants.{NextPeer, Ended}
+use Rattle.request_script.specs.declared.decision.Decision.TheVariants.{NextPeer}
 use Rattle.request_script.specs.declared.decision.Outcome.TheVariants.{Pass, Gateway}
 use Rattle.request_script.specs.declared.said.ReqSaid.{ReqSaid}
 use Rattle.request_script.specs.Turn.{Turn}
 use Rattle.request_script.specs.Turn.Turn.{decides}
 use Rattle.request_script.specs.Zones.{level_at, servers_up}
 use Rattle.request_script.specs.ConnLimits.{closes}
-use Rattle.request_script.specs.Peers.{chooses, frees, peer_of, tries_left}
+use Rattle.request_script.specs.Peers.{chooses, peer_of, tries_left}
 use Rattle.request_script.specs.Steps.{active_turn, after_conns, after_reqs, fails_whole, idle_turn, is_conn_refusal, is_req_refusal, opens, started, tries_next, turn_of}
+use Rattle.request_script.proofs.TurnParts.{level-is, step_at, fails_at, ends_at}
 use Rattle.request_script.proofs.Totals.{weigh, total-reverse}
 use Rattle.request_script.proofs.Priced.{Prices, Within, if-within}
 use Rattle.request_script.proofs.PricedLimits.{of_reqs, of_conns, of_opened, closes-within, reqs-within, conns-within, chooses-within}
-
--- ---- the levels of a configuration
-
--- what holds of each element holds of the one at a place, or of what stands for it
-pub All-or_else : {X : Type 0} (P : X → Type 0) (xs : List X) (i : ℕ) (d : X) → All P xs → P d → P (unwrap_or (slice_get xs i) d)
-All-or_else P [] i d each last = last
-All-or_else P (x ∷ xs) zero d each last = All-head P x xs each
-All-or_else P (x ∷ xs) (suc i) d each last = All-or_else P xs i d (All-tail P x xs each) last
-
-pub level-is : (config : Config) → IsConfig config → (location : Option ℕ) → IsLevel config.zones (level_at config location)
-level-is config is None = is.server
-level-is config is (Some location) = All-or_else (IsLevel config.zones) config.locations location config.server is.levels is.server
 
 -- ---- active requests
 
@@ -62,17 +50,8 @@ module _ (p : Prices) (bound : ℕ) (config : Config) where
   Goes = Within p bound (IsOfSome config.zones)
 
   module _ (now : ℕ) (vars : Vars) (level : Level) (is : IsLevel config.zones level) where
-    -- the third step, by the level's upstream
-    abbrev step_at : Option ℕ → ReqSaid → ConnStatus → List Opened → Turn
-    step_at peers said conns opened = elim peers [
-      | None ↦ decides (started Pass said conns None) (Some (record { opened = opened; peer = None }))
-      | Some zone ↦ chooses config now zone (servers_up config zone) 0 0
-          (λ taken. decides (started Pass said conns (Some (peer_of taken))) (Some (record { opened = opened; peer = Some taken })))
-          (closes (reverse opened) (decides (started Gateway said conns None) None))
-    ]
-
     step-within : (said : ReqSaid) (conns : ConnStatus) (opened : List Opened) → ((q : ℕ → ℕ) → of_opened q opened ≤ of_conns q level.conn)
-        → (peers : Option ℕ) → level.peers ≡ peers → (spent : ℕ) → spent + of_opened p.conn opened + 2 * weigh p.peer peers ≤ bound → Goes spent (step_at peers said conns opened)
+        → (peers : Option ℕ) → level.peers ≡ peers → (spent : ℕ) → spent + of_opened p.conn opened + 2 * weigh p.peer peers ≤ bound → Goes spent (step_at config now peers said conns opened)
     step-within said conns opened of None same spent fits = (level, is, record { conns = of; peer = tt })
     step-within said conns opened of (Some zone) same spent fits =
         let turned = total-reverse (λ (o : Opened). p.conn o.zone) opened in
@@ -117,24 +96,13 @@ module _ (p : Prices) (bound : ℕ) (config : Config) where
         (λ after fit. whole-within active of after fit) spent (omega (arith, fits)))
         (whole-within active of spent (omega (arith, fits)))
 
-    -- a failure, by the server that the request has
-    abbrev fails_at : Active → Option Taken → Turn
-    fails_at active peer = elim peer [ None ↦ fails_whole config now active | Some taken ↦ frees now taken true (tries_next config now active taken) ]
-
-    fails-within : (active : Active) → IsOfLevel level active → (peer : Option Taken) → IfSome peer (λ (taken : Taken). level.peers ≡ Some taken.zone) → Goes 0 (fails_at active peer)
+    fails-within : (active : Active) → IsOfLevel level active → (peer : Option Taken) → IfSome peer (λ (taken : Taken). level.peers ≡ Some taken.zone) → Goes 0 (fails_at config now active peer)
     fails-within active of None own = let most = affords.goes_on in whole-within active of 0 (omega (arith, most))
     fails-within active of (Some taken) own =
         let most = affords.goes_on in let price : weigh p.peer level.peers ≡ p.peer taken.zone = ap (weigh p.peer) own in
         (omega (arith, most, price), λ reply. next-within active of taken own (0 + p.peer taken.zone) (omega (arith, most, price)))
 
-    -- an end, by the server that the request has
-    abbrev ends_at : Active → Option Taken → Turn
-    ends_at active peer = elim peer [
-      | None ↦ closes (reverse active.opened) (decides Ended None)
-      | Some taken ↦ frees now taken false (closes (reverse active.opened) (decides Ended None))
-    ]
-
-    ends-within : (active : Active) → IsOfLevel level active → (peer : Option Taken) → IfSome peer (λ (taken : Taken). level.peers ≡ Some taken.zone) → Goes 0 (ends_at active peer)
+    ends-within : (active : Active) → IsOfLevel level active → (peer : Option Taken) → IfSome peer (λ (taken : Taken). level.peers ≡ Some taken.zone) → Goes 0 (ends_at now active peer)
     ends-within active of None own =
         let most = affords.goes_on in let turned = total-reverse (λ (o : Opened). p.conn o.zone) active.opened in let few = of.conns p.conn in
         closes-within p bound (IsOfSome config.zones) (reverse active.opened) 0 _ (λ last _. tt) 0 (omega (arith, most, turned, few))
