@@ -1,5 +1,5 @@
 -- How far a line is, and the rest of its turn.
-use Rattle.std.specs.Prelude.{ℕ, ◌<◌, ◌≤◌, ◌^◌, List, [], drop, reverse, Bool, true, false, Option, Some, None, if◌then◌else◌}
+use Rattle.std.specs.Prelude.{ℕ, ◌≤◌, ◌&&◌, nat_eq, List, [], drop, reverse, Some, None, if◌then◌else◌}
 use Rattle.zone_config.specs.declared.data.Config.{Config}
 use Rattle.zone_config.specs.declared.data.Level.{Level}
 use Rattle.req_zone.specs.Amount.{IsRate}
@@ -25,7 +25,7 @@ use Rattle.request_script.specs.declared.said.Hold.{Hold}
 use Rattle.request_script.specs.declared.said.ReqSaid.{ReqSaid}
 use Rattle.request_script.specs.Turn.{Turn}
 use Rattle.request_script.specs.Turn.Turn.{asks, decides}
-use Rattle.request_script.specs.Zones.{level_at, rate_of, servers_up}
+use Rattle.request_script.specs.Zones.{level_at, rate_of, has_backups, servers_up}
 use Rattle.request_script.specs.ReqLimits.{req_reply, accounted, delay_by, greater, releases, accounts, after_check, req_walk}
 use Rattle.request_script.specs.ConnLimits.{conn_reply, opened_in, closes, conn_refused, after_open, conn_walk}
 use Rattle.request_script.specs.Peers.{peer_of, chooses}
@@ -65,15 +65,15 @@ module _ (config : Config) where
 
   -- what follows the limits of requests
   abbrev pub behind_reqs : Opening → ReqSaid → Turn
-  behind_reqs o = after_reqs config o.now o.vars (level_of o)
+  behind_reqs o = after_reqs config o.moment o.vars (level_of o)
 
   -- what follows the limits of connections
   abbrev pub behind_conns : Opening → ReqSaid → ConnStatus → List Opened → Turn
-  behind_conns o = after_conns config o.now o.vars (level_of o)
+  behind_conns o = after_conns config o.moment o.vars (level_of o)
 
   -- the limits of requests from this place of the list on
   abbrev pub reqs_from : Opening → List Hold → ℕ → Turn
-  reqs_from o holds place = req_walk config o.now o.vars (level_of o).req_dry holds (drop place (level_of o).req) (behind_reqs o)
+  reqs_from o holds place = req_walk config o.moment o.vars (level_of o).req_dry holds (drop place (level_of o).req) (behind_reqs o)
 
   -- the limits of connections from this place of the list on
   abbrev pub conns_from : Opening → ReqSaid → List Opened → ℕ → Turn
@@ -86,16 +86,20 @@ module _ (config : Config) where
 
   -- a choice, from its list on
   abbrev pub choice_turn : Choice → Turn
-  choice_turn c = chooses config c.now c.zone c.tries c.list c.tried (found c.purpose c.opened) (not_found c.purpose c.opened)
+  choice_turn c = chooses config c.moment c.zone c.tries c.list c.tried (found c.purpose c.opened) (not_found c.purpose c.opened)
+
+  -- what follows a list without a server: the choice in the backup list with nothing tried, where there are backups
+  abbrev pub without_server : Choice → Turn
+  without_server c = if nat_eq c.list 0 && has_backups config c.zone then choice_turn (record c { list = 1; tried = 0 }) else not_found c.purpose c.opened
 
   -- ---- a line
 
   -- what follows the reply to the call that was asked last
   abbrev pub rest : Progress → ZoneReply → Turn
-  rest (at.Check o holds limit behind) = λ reply. after_check config o.now o.vars (level_of o).req_dry limit holds
+  rest (at.Check o holds limit behind) = λ reply. after_check config o.moment o.vars (level_of o).req_dry limit holds
       (λ more. reqs_from o more behind) (behind_reqs o) (req_reply reply)
   rest (at.Release o holds said) = λ _. releases (reverse holds) (behind_reqs o said)
-  rest (at.Account o holds hold greatest) = λ reply. accounts config o.now o.vars (level_of o).req_dry
+  rest (at.Account o holds hold greatest) = λ reply. accounts config o.moment o.vars (level_of o).req_dry
       (greater greatest (delay_by config hold.zone hold.allowed (accounted (req_reply reply)))) (reverse holds) (behind_reqs o)
   rest (at.Open o said opened limit behind) = λ reply. after_open config o.vars (level_of o).conn_dry limit opened
       (λ more. conns_from o said more behind) (behind_conns o said) (opened_in (conn_reply reply))

@@ -3,8 +3,11 @@
 
 mod active;
 mod call;
+mod conns;
 mod decision;
+mod peers;
 mod progress;
+mod reqs;
 mod room;
 mod said;
 mod script;

@@ -12,7 +12,7 @@ pub(crate) struct Opening {
     /// The number of its location, or none at the server itself.
     pub(crate) location: Option<u32>,
     /// Its moment in ms.
-    pub(crate) now: u64,
+    pub(crate) moment: u64,
     /// What it gives to the variables of key expressions.
     pub(crate) vars: Vars,
 }
@@ -49,7 +49,7 @@ pub(crate) struct Choice {
     /// The tries that the request then has.
     pub(crate) tries: u64,
     /// The moment of the line in ms.
-    pub(crate) now: u64,
+    pub(crate) moment: u64,
     /// The list that is asked.
     pub(crate) list: u32,
     /// The servers of the list that were tried.
