@@ -8,9 +8,12 @@ pub returns-then-not-is_skipped : goal.returns-then-not-is_skipped
 returns-then-not-is_skipped c =
     let are = c.as_slice-limits.ensures ∙ ap (λ (l : Level). l.req) c.level_at.ensures in
     let asked : is_skipped 65535 c.in_ok-key.key ≡ false = sym c.is_skipped.ensures ∙ c.if-not-is_skipped.true in
-    ?
+    rw (c.in_ok-key.ensures, c.copy_of.ensures)
+    (reqs-asked c.args.config.now c.args.opening c.limits.place c.as_slice-limits.result.now are c.limits.holds _ c.limits-test.true (rw c.in_ok-key.ensures at asked)
+        ∙ c.limits.invariant)
 
 pub returns : goal.returns
 returns c =
     let are = c.as_slice-limits.ensures ∙ ap (λ (l : Level). l.req) c.level_at.ensures in
-    c.walk_ends.ensures ∙ reqs-end c.args.config.now c.args.opening c.limits.place c.as_slice-limits.result.now are c.limits.holds c.limits-test.false ∙ c.limits.invariant
+    let end = reqs-end c.args.config.now c.args.opening c.limits.place c.as_slice-limits.result.now are c.limits.holds c.limits-test.false ∙ c.limits.invariant in
+    rw (← end) c.walk_ends.ensures
