@@ -1,3 +1,4 @@
 pub mod ConfigLemmas
 pub mod ReverseLemmas
 pub mod WalkLemmas
+pub mod ScriptLemmas

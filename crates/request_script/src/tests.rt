@@ -1,11 +1,19 @@
-use crate::{conn_spec, peer_spec, req_spec, rooms};
+ghost use Rattle.std.specs.Prelude.{OnOk};
+ghost use Rattle.std.specs.List.{All};
+ghost use Rattle.request_script.specs.Replies.{IsInRange};
+ghost use Rattle.request_script.specs.Script.{MayBegin, state_of};
+
+use crate::{Next, Script, ZoneReply, conn_spec, peer_spec, req_spec, rooms};
 use directive_text::read;
-use peer_zone::Method;
+use peer_zone::{Method, PeerReply};
 use replay_log::{Event, Line};
+use req_zone::ReqReply;
 use sqlite_items::Items;
 use std::alloc::Global;
+use std::process::Abort;
 use std::test::Fail;
 use zone_config::{ConnData, MethodData, PeerData, ReqData, ServerData, config_of};
+use zone_key::Vars;
 use zone_outside::Text;
 
 /// A server of this address and weight, of which all else is left out.
@@ -73,6 +81,99 @@ fn three_calls_a_line(rt: HostRuntime) -> Result<(), Fail> {
     assert_eq!(rt;
         rooms(rt.alloc(), &config, &[line])?.as_slice(),
         [3, 3].as_slice()
+    );
+    Ok(())
+}
+
+/// Lines of a connection at location 0.
+fn line(moment: u64, conn: u32, event: Event) -> Line {
+    Line {
+        number: 1,
+        moment,
+        conn,
+        event,
+    }
+}
+
+/// An open from 10.0.0.1 at location 0.
+fn open(alloc: Global) -> Event {
+    Event::Start {
+        level: Some(0),
+        vars: Vars {
+            address: [10, 0, 0, 1],
+            pairs: Items::new(alloc),
+        },
+    }
+}
+
+/// What a script asks of a line, as it is shown, where these are the replies; and what it decides.
+fn run(
+    rt: &impl Abort,
+    alloc: Global,
+    script: &mut Script<'_>,
+    line: &Line,
+    replies: &[ZoneReply],
+) -> Result<(Vec<String>, String), Fail>
+    requires may { MayBegin (state_of script.old).stage }
+    requires ranges { All IsInRange replies.now }
+    ensures { OnOk result (MayBegin (state_of script.new).stage) }
+{
+    let mut calls = Vec::new(alloc);
+    let mut next = script.begin(line)?;
+    for reply in replies {
+        match next {
+            Next::Ask { call } => {
+                calls.push(format!(in alloc; "{call:?}")?)?;
+                next = script.answer(*reply)?;
+            }
+            Next::Told { decision } => panic!(rt; "{decision:?}"),
+        }
+    }
+    match next {
+        Next::Ask { call } => panic!(rt; "{call:?}"),
+        Next::Told { decision } => Ok((calls, format!(in alloc; "{decision:?}")?)),
+    }
+}
+
+/// A limit that lets a request go on and one that refuses it, which lets the first one's hold go.
+#[test]
+fn a_limit_refuses(rt: HostRuntime) -> Result<(), Fail> {
+    let text =
+        b"http{limit_req_zone $binary_remote_addr zone=ra:1m rate=1r/s;limit_req_zone $binary_remote_addr zone=rb:1m rate=1r/s;server{location /{limit_req zone=ra burst=5;limit_req zone=rb;}}}";
+    let config = config_of(rt.alloc(), &read(rt.alloc(), text)?)?;
+    let mut script = Script::new(rt.alloc(), &config);
+    let replies = [
+        ZoneReply::Req {
+            reply: ReqReply::Again {
+                excess: 500,
+                at: 4224,
+            },
+        },
+        ZoneReply::Req {
+            reply: ReqReply::Busy { excess: 500 },
+        },
+        ZoneReply::Req {
+            reply: ReqReply::Released,
+        },
+    ];
+    let second = line(1_000_500, 1, open(rt.alloc()));
+    let (calls, decision) = run(&rt, rt.alloc(), &mut script, &second, &replies)?;
+    assert_eq!(rt; calls.len(), 3);
+    assert_eq!(rt;
+        calls[0].as_str(),
+        "Req { zone: 0, call: Check { key: Key { bytes: [10, 0, 0, 1] }, now: 1000500, burst: 5000, last: false } }"
+    );
+    assert_eq!(rt;
+        calls[1].as_str(),
+        "Req { zone: 1, call: Check { key: Key { bytes: [10, 0, 0, 1] }, now: 1000500, burst: 0, last: true } }"
+    );
+    assert_eq!(rt;
+        calls[2].as_str(),
+        "Req { zone: 0, call: Release { at: 4224 } }"
+    );
+    assert_eq!(rt;
+        decision.as_str(),
+        "Started { outcome: Limited { status: 503 }, req: Rejected, delay: 0, by: Some(1), excess: Amount { value: 500 }, conn: Unset, peer: None }"
     );
     Ok(())
 }

@@ -11,7 +11,7 @@ returns-then-not-is_skipped c =
     let asked : is_skipped 255 c.in_ok-key.key ≡ false = sym c.is_skipped.ensures ∙ c.if-not-is_skipped.true in
     rw (c.in_ok-key.ensures, c.copy_of.ensures)
     (conns-asked c.args.config.now c.args.opening c.limits.place c.as_slice-limits.result.now are c.args.said c.limits.opened _ c.limits-test.true
-        (rw c.in_ok-key.ensures at asked) ∙ c.limits.invariant)
+    (rw c.in_ok-key.ensures at asked) ∙ c.limits.invariant)
 
 pub returns : goal.returns
 returns c =

@@ -10,7 +10,7 @@ returns-then-not-is_skipped c =
     let asked : is_skipped 65535 c.in_ok-key.key ≡ false = sym c.is_skipped.ensures ∙ c.if-not-is_skipped.true in
     rw (c.in_ok-key.ensures, c.copy_of.ensures)
     (reqs-asked c.args.config.now c.args.opening c.limits.place c.as_slice-limits.result.now are c.limits.holds _ c.limits-test.true (rw c.in_ok-key.ensures at asked)
-        ∙ c.limits.invariant)
+    ∙ c.limits.invariant)
 
 pub returns : goal.returns
 returns c =
