@@ -127,20 +127,20 @@ pub(crate) fn release(
     ensures { IfOk result (λ step. step_turn config.now step ≡ releases (reverse holds) (behind_reqs config.now opening said)) }
 {
     let mut holds = holds;
-    match holds.pop() {
-        Some(hold) => Ok(Step::Ask {
-            call: ZoneCall::Req {
-                zone: hold.zone,
-                call: ReqCall::Release { at: hold.at },
-            },
-            progress: Progress::Release {
-                opening,
-                holds,
-                said,
-            },
-        }),
-        None => after_reqs(alloc, config, opening, said),
-    }
+    let Some(hold) = holds.pop() else {
+        return after_reqs(alloc, config, opening, said);
+    };
+    Ok(Step::Ask {
+        call: ZoneCall::Req {
+            zone: hold.zone,
+            call: ReqCall::Release { at: hold.at },
+        },
+        progress: Progress::Release {
+            opening,
+            holds,
+            said,
+        },
+    })
 }
 
 /// Accounts these holds, the last one first, where this is the greatest delay so far.
