@@ -25,7 +25,7 @@ use Rattle.request_script.specs.Drive.{Made, req_made, conn_made, peer_made, req
 use Rattle.request_script.specs.Permitted.{is_to, calls_to}
 use Rattle.replay_share.specs.Logs.{ReqEntry, ConnEntry, PeerEntry, made_of, HasCallersBelow, ZoneLog, HasPart}
 use Rattle.replay_share.specs.Logs.ZoneLog.{req_log, conn_log, peer_log}
-use Rattle.replay_share.specs.Calls.{zone_of}
+use Rattle.request_script.specs.Permitted.{zone_of}
 
 -- ---- the entries of one caller
 

@@ -13,7 +13,8 @@ use Rattle.request_script.specs.declared.call.ZoneCall.TheVariants as to
 use Rattle.request_script.specs.declared.call.ZoneReply.{ZoneReply}
 use Rattle.request_script.specs.Turn.{Exchange}
 use Rattle.replay_share.specs.declared.journal.ZoneJournal.{ZoneJournal}
-use Rattle.replay_share.specs.Calls.{IsOfKind, IsReplyTo, IsWith, CanAsk, zone_of}
+use Rattle.request_script.specs.Permitted.{IsOfKind, zone_of}
+use Rattle.replay_share.specs.Calls.{IsReplyTo, IsWith, CanAsk}
 use Rattle.replay_share.specs.Logs.{ZoneLog, HasPart, HasParts}
 use Rattle.replay_share.specs.Journals.{IsJournalOf, IsJournalAt, Serves, CanTake, TakesAs, log_of}
 use Rattle.replay_share.proofs.Parts.{part-stays}

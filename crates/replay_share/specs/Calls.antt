@@ -1,25 +1,12 @@
 -- What answers the calls of a share.
-use Rattle.std.specs.Prelude.{ℕ, ◌<◌, List, Option, slice_get}
+use Rattle.std.specs.Prelude.{ℕ, ◌<◌, List, slice_get}
 use Rattle.zone_config.specs.declared.data.ZoneSpec.{ZoneSpec}
-use Rattle.zone_config.specs.Conditions.{IsReqZone, IsConnZone, IsSomePeerZone}
 use Rattle.request_script.specs.declared.call.ZoneCall.{ZoneCall}
 use Rattle.request_script.specs.declared.call.ZoneCall.TheVariants.{Req, Conn, Peer}
 use Rattle.request_script.specs.declared.call.ZoneReply.{ZoneReply}
 use Rattle.request_script.specs.declared.call.ZoneReply.TheVariants as from
 use Rattle.request_script.specs.Turn.{Exchange}
-use Rattle.request_script.specs.Permitted.{MayAsk, calls_to}
-
--- a zone is there, and of the call's kind
-abbrev pub IsOfKind : Option ZoneSpec → ZoneCall → Type 0
-IsOfKind spec (Req zone call) = IsReqZone spec
-IsOfKind spec (Conn zone call) = IsConnZone spec
-IsOfKind spec (Peer zone call) = IsSomePeerZone spec
-
--- the number of the zone that a call goes to
-abbrev pub zone_of : ZoneCall → ℕ
-zone_of (Req zone call) = zone
-zone_of (Conn zone call) = zone
-zone_of (Peer zone call) = zone
+use Rattle.request_script.specs.Permitted.{MayAsk, IsOfKind, zone_of, calls_to}
 
 -- the reply is one of the call's kind
 abbrev pub IsReplyTo : ZoneCall → ZoneReply → Type 0

@@ -18,8 +18,8 @@ use Rattle.zone_config.specs.declared.data.ZoneSpec.{ZoneSpec}
 use Rattle.zone_config.specs.declared.data.ZoneSpec.TheVariants as zone
 use Rattle.request_script.specs.declared.call.ZoneCall.{ZoneCall}
 use Rattle.request_script.specs.Turn.{Exchange}
-use Rattle.request_script.specs.Permitted.{MayAsk, calls_to}
-use Rattle.replay_share.specs.Calls.{IsOfKind, IsWith, zone_of}
+use Rattle.request_script.specs.Permitted.{MayAsk, IsOfKind, zone_of, calls_to}
+use Rattle.replay_share.specs.Calls.{IsWith}
 use Rattle.replay_share.specs.declared.journal.ZoneJournal.{ZoneJournal}
 use Rattle.replay_share.specs.declared.journal.ZoneJournal.TheVariants.{Req, Conn, Peer}
 use Rattle.replay_share.specs.Logs.{ReqEntry, ConnEntry, PeerEntry, ZoneLog, req_opened, conn_opened, peer_opened, HasCallersBelow, HasPart, HasParts}

@@ -2,4 +2,5 @@ pub mod Logs
 pub mod Calls
 pub mod Journals
 pub mod Opening
+pub mod Share
 pub mod Replay

@@ -1,5 +1,5 @@
 ghost use Rattle.std.specs.Prelude.{◌≡◌};
-ghost use Rattle.replay_share.specs.Calls.{zone_of};
+ghost use Rattle.request_script.specs.Permitted.{zone_of};
 
 use crate::answers::Answers;
 use crate::journal::ZoneJournal;

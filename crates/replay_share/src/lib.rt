@@ -5,8 +5,10 @@ mod answers;
 mod journal;
 mod journals;
 mod opening;
+mod share;
 
 pub use answers::Answers;
 pub use journal::ZoneJournal;
 pub use journals::Journals;
 pub use opening::OpeningFault;
+pub use share::replay_share;

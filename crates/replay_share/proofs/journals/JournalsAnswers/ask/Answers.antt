@@ -1,5 +1,5 @@
 use Rattle.std.proofs.Common.{rules, ℕ, ◌≡◌, ◌∷◌, [], ◌++◌, List}
-use Rattle.replay_share.specs.Calls.{zone_of}
+use Rattle.request_script.specs.Permitted.{zone_of}
 use Rattle.replay_share.proofs.Serving.{finds, serves-after, can_at, at_set}
 use Rattle.replay_share.proofs.journals.JournalsAnswers.ask.Goals as goal
 
