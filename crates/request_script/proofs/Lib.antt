@@ -16,3 +16,7 @@ pub mod PermittedLimits
 pub mod PermittedTurns
 pub mod PermittedDrives
 pub mod Following
+pub mod ConfigLemmas
+pub mod ReverseLemmas
+pub mod WalkLemmas
+pub mod ScriptLemmas

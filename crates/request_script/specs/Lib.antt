@@ -5,6 +5,8 @@ pub mod ConnLimits
 pub mod Peers
 pub mod Steps
 pub mod Drive
+pub mod Progress
+pub mod Script
 pub mod Replies
 pub mod ZoneSpecs
 pub mod Permitted

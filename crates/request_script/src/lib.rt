@@ -3,17 +3,26 @@
 
 mod active;
 mod call;
+mod conns;
 mod decision;
+mod peers;
+mod progress;
+mod reqs;
 mod room;
 mod said;
+mod script;
+mod steps;
 pub mod theorems;
+mod vars;
 mod zone_specs;
+mod zones;
 
 pub use active::{Active, Opened, Taken};
 pub use call::{ZoneCall, ZoneReply};
 pub use decision::{ConnStatus, Decision, Excess, Notice, Outcome, PeerAt, ReqStatus};
 pub use room::rooms;
 pub use said::{Delay, Hold, ReqSaid};
+pub use script::{Next, Script};
 pub use zone_specs::{conn_spec, peer_spec, req_spec};
 
 #[cfg(test)]

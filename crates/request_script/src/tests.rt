@@ -1,12 +1,41 @@
-use crate::{conn_spec, peer_spec, req_spec, rooms};
+ghost use Rattle.std.specs.Prelude.{OnOk};
+ghost use Rattle.std.specs.List.{All};
+ghost use Rattle.request_script.specs.Replies.{HasSmallExcess, HasSmallIndex, IsInRange};
+ghost use Rattle.request_script.specs.Script.{MayBegin, state_of};
+
+use crate::{Next, Script, ZoneReply, conn_spec, peer_spec, req_spec, rooms};
 use directive_text::read;
-use peer_zone::Method;
+use peer_zone::{Method, PeerReply};
 use replay_log::{Event, Line};
+use req_zone::ReqReply;
 use sqlite_items::Items;
 use std::alloc::Global;
+use std::process::Abort;
 use std::test::Fail;
 use zone_config::{ConnData, MethodData, PeerData, ReqData, ServerData, config_of};
+use zone_key::Vars;
 use zone_outside::Text;
+
+/// What is asked of an open that the second of two limits refuses, and what is decided.
+const REFUSED: &str =
+    "Req { zone: 0, call: Check { key: Key { bytes: [10, 0, 0, 1] }, now: 1000500, burst: 5000, last: false } }
+Req { zone: 1, call: Check { key: Key { bytes: [10, 0, 0, 1] }, now: 1000500, burst: 0, last: true } }
+Req { zone: 0, call: Release { at: 4224 } }
+Started { outcome: Limited { status: 503 }, req: Rejected, delay: 0, by: Some(1), excess: Amount { value: 500 }, conn: Unset, peer: None }";
+
+/// What is asked when a server takes a request,
+const OPENED: &str = "Peer { zone: 0, call: Choose { list: 0, tried: 0, now: 11 } }
+Started { outcome: Pass, req: Unset, delay: 0, by: None, excess: Unset, conn: Unset, peer: Some(PeerAt { zone: 0, list: 0, index: 0 }) }";
+
+/// when it fails and the backup takes the request,
+const FAILED: &str = "Peer { zone: 0, call: Free { list: 0, index: 0, failed: true, now: 11 } }
+Peer { zone: 0, call: Choose { list: 0, tried: 1, now: 11 } }
+Peer { zone: 0, call: Choose { list: 1, tried: 0, now: 11 } }
+NextPeer { peer: PeerAt { zone: 0, list: 1, index: 0 } }";
+
+/// and when the request ends.
+const ENDED: &str = "Peer { zone: 0, call: Free { list: 1, index: 0, failed: false, now: 11 } }
+Ended";
 
 /// A server of this address and weight, of which all else is left out.
 fn server(alloc: Global, address: &[u8], weight: u64) -> Result<ServerData, Fail> {
@@ -74,5 +103,119 @@ fn three_calls_a_line(rt: HostRuntime) -> Result<(), Fail> {
         rooms(rt.alloc(), &config, &[line])?.as_slice(),
         [3, 3].as_slice()
     );
+    Ok(())
+}
+
+/// Lines of a connection at location 0.
+fn line(moment: u64, conn: u32, event: Event) -> Line {
+    Line {
+        number: 1,
+        moment,
+        conn,
+        event,
+    }
+}
+
+/// An open from 10.0.0.1 at location 0.
+fn open(alloc: Global) -> Event {
+    Event::Start {
+        level: Some(0),
+        vars: Vars {
+            address: [10, 0, 0, 1],
+            pairs: Items::new(alloc),
+        },
+    }
+}
+
+/// What a script asks of a line, as it is shown, where these are the replies; and what it decides.
+fn run(
+    rt: &impl Abort,
+    alloc: Global,
+    script: &mut Script<'_>,
+    line: &Line,
+    replies: &[ZoneReply],
+) -> Result<String, Fail>
+    requires may { MayBegin (state_of script.old).stage }
+    requires ranges { All IsInRange replies.now }
+    ensures { OnOk result (MayBegin (state_of script.new).stage) }
+{
+    let mut shown = String::new(alloc);
+    let mut next = script.begin(line)?;
+    for reply in replies {
+        match next {
+            Next::Ask { call } => {
+                write!(shown, "{call:?}\n")?;
+                next = script.answer(*reply)?;
+            }
+            Next::Told { decision } => panic!(rt; "{decision:?}"),
+        }
+    }
+    match next {
+        Next::Ask { call } => panic!(rt; "{call:?}"),
+        Next::Told { decision } => write!(shown, "{decision:?}")?,
+    }
+    Ok(shown)
+}
+
+/// What a request zone answers, with an excess in its range.
+fn req(reply: ReqReply) -> ZoneReply
+    requires { HasSmallExcess reply }
+    ensures { IsInRange result }
+{
+    ZoneReply::Req { reply }
+}
+
+/// What an upstream's zone answers, with an index in its range.
+fn peer(reply: PeerReply) -> ZoneReply
+    requires { HasSmallIndex reply }
+    ensures { IsInRange result }
+{
+    ZoneReply::Peer { reply }
+}
+
+/// A limit lets a request go on, the next one refuses it, and the first one's hold is let go.
+#[test]
+fn a_limit_refuses(rt: HostRuntime) -> Result<(), Fail> {
+    let text =
+        b"http{limit_req_zone $binary_remote_addr zone=ra:1m rate=1r/s;limit_req_zone $binary_remote_addr zone=rb:1m rate=1r/s;server{location /{limit_req zone=ra burst=5;limit_req zone=rb;}}}";
+    let config = config_of(rt.alloc(), &read(rt.alloc(), text)?)?;
+    let mut script = Script::new(rt.alloc(), &config);
+    let again = req(ReqReply::Again {
+        excess: 500,
+        at: 4224,
+    });
+    let busy = req(ReqReply::Busy { excess: 500 });
+    let released = req(ReqReply::Released);
+    let second = line(1_000_500, 1, open(rt.alloc()));
+    let shown = run(
+        &rt,
+        rt.alloc(),
+        &mut script,
+        &second,
+        &[again, busy, released],
+    )?;
+    assert_eq!(rt; shown.as_str(), REFUSED);
+    Ok(())
+}
+
+/// A server fails, and the backup takes its request and ends it.
+#[test]
+fn a_server_fails(rt: HostRuntime) -> Result<(), Fail> {
+    let text =
+        b"http{upstream back{zone back 1m;server a;server b backup;}server{location /{proxy_pass http://back;}}}";
+    let config = config_of(rt.alloc(), &read(rt.alloc(), text)?)?;
+    let mut script = Script::new(rt.alloc(), &config);
+    let first = peer(PeerReply::Peer { index: 0 });
+    let none = peer(PeerReply::NoPeer);
+    let freed = peer(PeerReply::Freed);
+    let opened = line(11_900, 0, open(rt.alloc()));
+    let shown = run(&rt, rt.alloc(), &mut script, &opened, &[first])?;
+    assert_eq!(rt; shown.as_str(), OPENED);
+    let failed = line(11_900, 0, Event::Fail);
+    let shown = run(&rt, rt.alloc(), &mut script, &failed, &[freed, none, first])?;
+    assert_eq!(rt; shown.as_str(), FAILED);
+    let done = line(11_900, 0, Event::Done);
+    let shown = run(&rt, rt.alloc(), &mut script, &done, &[freed])?;
+    assert_eq!(rt; shown.as_str(), ENDED);
     Ok(())
 }
