@@ -180,21 +180,24 @@ fn has_conn_zone(config: &Config, status: ConnStatus) -> bool
     }
 }
 
-/// Whether it has what an open names.
-fn has_all(config: &Config, by: Option<u32>, conn: ConnStatus, peer: Option<PeerAt>) -> bool
-    ensures zone { result ≡ true → IfSome by (HasZone config.now) }
-    ensures conn { result ≡ true → HasConnZone config.now conn }
-    ensures server { result ≡ true → IfSome peer (HasServer config.now) }
+/// Whether it has the zone of the limit that delays or refuses a request.
+fn has_by(config: &Config, by: Option<u32>) -> bool
+    ensures { result ≡ true → IfSome by (HasZone config.now) }
 {
-    let by = match by {
+    match by {
         Some(zone) => has_zone(config, zone),
         None => true,
-    };
-    let peer = match peer {
+    }
+}
+
+/// Whether it has the server that takes a request.
+fn has_peer(config: &Config, peer: Option<PeerAt>) -> bool
+    ensures { result ≡ true → IfSome peer (HasServer config.now) }
+{
+    match peer {
         Some(peer) => has_server(config, peer),
         None => true,
-    };
-    by && has_conn_zone(config, conn) && peer
+    }
 }
 
 /// Whether it has all that a decision names.
@@ -202,7 +205,9 @@ fn is_named(config: &Config, decision: Decision) -> bool
     ensures { result ≡ true → IsNamed config.now decision }
 {
     match decision {
-        Decision::Started { by, conn, peer, .. } => has_all(config, by, conn, peer),
+        Decision::Started { by, conn, peer, .. } => {
+            has_by(config, by) && has_conn_zone(config, conn) && has_peer(config, peer)
+        }
         Decision::NextPeer { peer } => has_server(config, peer),
         _ => true,
     }

@@ -11,3 +11,4 @@ pub mod ZoneLemmas
 pub mod FreshLemmas
 pub mod GrantLemmas
 pub mod RootLemmas
+pub mod OpenedLemmas

@@ -189,7 +189,9 @@ fn made(rt: &impl Abort, journal: &mut Journal<PeerZone>, call: &PeerCall) -> Pe
             now,
         } => {
             let (list, index, failed, now) = (*list, *index, *failed, *now);
-            let had = had(journal.entries(), list, index);
+            let entries = journal.entries();
+            assert!(rt; entries.len() < 1_000_000);
+            let had = had(entries, list, index);
             assert!(rt; list < 2 && now < 1 << 42 && had.back < had.given);
             journal.call(
                 0,

@@ -3,4 +3,4 @@ use Rattle.request_script.proofs.ScriptLemmas.{Fits}
 use Rattle.request_script.proofs.tests.run.Given as goal
 
 abbrev pub invariant-loop-reply : goal.invariant-loop-reply
-invariant-loop-reply l = Fits l.next (state_of l.script).stage
+invariant-loop-reply g l = Fits l.next (state_of l.script).stage
