@@ -3,3 +3,4 @@ pub mod Parts
 pub mod Taking
 pub mod Serving
 pub mod Served
+pub mod Going

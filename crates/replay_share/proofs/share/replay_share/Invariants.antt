@@ -1,0 +1,9 @@
+use Rattle.std.proofs.Common.{ℕ, ◌≡◌, ◌*◌, ◌≤◌, List, [], length, take}
+use Rattle.request_script.specs.Script.{state_of}
+use Rattle.replay_share.specs.Share.{HasDecided}
+use Rattle.replay_share.proofs.share.replay_share.Given as goal
+
+abbrev pub invariant-loop-line : goal.invariant-loop-line
+invariant-loop-line g l =
+    (room : ℕ) → g.A.Answers.serves l.fn.zones l.config.zones room [] → 3 * length l.lines ≤ room
+    → HasDecided (g.A.Answers.serves l.zones l.config.zones room) l.config (state_of l.script) (take l.line-index l.lines) l.decisions.items
