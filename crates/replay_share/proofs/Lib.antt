@@ -4,3 +4,4 @@ pub mod Taking
 pub mod Serving
 pub mod Served
 pub mod Going
+pub mod Alone

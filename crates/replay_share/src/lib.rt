@@ -10,5 +10,5 @@ mod share;
 pub use answers::Answers;
 pub use journal::ZoneJournal;
 pub use journals::Journals;
-pub use opening::OpeningFault;
+pub use opening::{OpeningFault, refused_line};
 pub use share::replay_share;

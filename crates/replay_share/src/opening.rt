@@ -1,7 +1,9 @@
-ghost use Rattle.std.specs.Prelude.{◌≡◌, [], ◌∷◌, ◌++◌, IfOk, OnOk};
+ghost use Rattle.std.specs.Prelude.{◌≡◌, [], ◌∷◌, ◌++◌, IfOk, OnOk, is_some};
+ghost use Rattle.peer_zone.specs.Opening.{refused_server};
+ghost use Rattle.request_script.specs.ZoneSpecs.{peer_spec as spec_of_peer};
 ghost use Rattle.std.specs.List.{All};
 ghost use Rattle.zone_config.specs.Conditions.{AreZones, IsZone, IsWithin, IsZoneSpec, HasServers, HasOwnServers};
-ghost use Rattle.replay_share.specs.Opening.{OpensReq, OpensConn, OpensPeer, OpensZone, OpensZones};
+ghost use Rattle.replay_share.specs.Opening.{OpensReq, OpensConn, OpensPeer, OpensZone, OpensZones, refused_at, refused_line};
 
 use crate::journal::ZoneJournal;
 use crate::journals::Journals;
@@ -105,6 +107,46 @@ pub(crate) fn open_zone(
             journal: open_peer(alloc, spec, *line, room)?,
         },
     })
+}
+
+/// Whether an upstream's zone has no block for one of its servers. The zone is opened and given up again.
+fn is_refused(alloc: Global, given: &PeerData) -> Result<bool, NoMemory>
+    requires zone { IsZone given.now.name given.now.bytes given.now.page_shift }
+    requires servers { HasServers given.now }
+    ensures { IfOk result (λ refused. refused ≡ is_some (refused_server (spec_of_peer given.now))) }
+{
+    match open_peer(alloc, given, 0, 0) {
+        Ok(_) => Ok(false),
+        Err(OpeningFault::Refused { line: _ }) => Ok(true),
+        Err(OpeningFault::NoMemory) => Err(NoMemory),
+    }
+}
+
+/// The line of a zone that has no block for a server of its upstream.
+fn refused_at(alloc: Global, zone: &ZoneSpec) -> Result<Option<u64>, NoMemory>
+    requires zone { IsZoneSpec zone.now }
+    requires servers { HasOwnServers zone.now }
+    ensures { IfOk result (λ line. line ≡ refused_at zone.now) }
+{
+    match zone {
+        ZoneSpec::Peer { spec, line } => Ok(is_refused(alloc, spec)?.then_some(*line)),
+        _ => Ok(None),
+    }
+}
+
+/// The line of the first zone of a configuration that has no block for a server of its upstream. Each zone of an upstream
+/// is opened and given up again, one after another; other zones always have their blocks.
+pub fn refused_line(alloc: Global, zones: &[ZoneSpec]) -> Result<Option<u64>, NoMemory>
+    requires zones { AreZones zones.now }
+    requires servers { All HasOwnServers zones.now }
+    ensures { IfOk result (λ line. line ≡ refused_line zones.now) }
+{
+    for zone in zones {
+        if let Some(line) = refused_at(alloc, zone)? {
+            return Ok(Some(line));
+        }
+    }
+    Ok(None)
 }
 
 /// Adds a journal to those of the zones before.

@@ -10,12 +10,13 @@ use Rattle.zone_outside.specs.Faults.{Rose}
 use Rattle.zonereplay.specs.declared.stop.Refusal.TheVariants.{TooLong}
 use Rattle.zonereplay.specs.declared.stop.Stop.{Stop}
 use Rattle.zonereplay.specs.declared.stop.Stop.TheVariants.{Refused, ReadFault, NoMemory}
-use Rattle.zonereplay.specs.Plan.{Plan, End, Ends, Reaches, MayHold, text_limit, in_limit}
+use Rattle.zone_config.specs.declared.data.Config.{Config}
+use Rattle.zonereplay.specs.Plan.{Plan, End, Ends, Reaches, MayHold, text_limit, in_limit, unless_refused, with_zones}
 use Rattle.zonereplay.specs.Plan.Plan.{refuses, reads}
 use Rattle.zonereplay.specs.Plan.End.{refused, written}
 use Rattle.zonereplay.specs.Devices.{Files, FilesCalm}
 use Rattle.zonereplay.specs.Answers.{Stops}
-use Rattle.zonereplay.specs.Stages.{FilesKept, IsTextOf, ReadsText, Prepares}
+use Rattle.zonereplay.specs.Stages.{FilesKept, IsTextOf, ReadsText, IsUsable, OpensConfig, Prepares}
 
 -- there is a text longer than n
 long_text : (n : ℕ) → (text : List ℕ) × (n < length text)
@@ -83,3 +84,32 @@ read_prepares name before between after next text prepared read went =
 -- a plan that can't read a text stops
 pub read_stopped : (name : List ℕ) (before after : Files) (next : List ℕ → Plan) (why : Stop) → ReadsText name before after (Err why) → Prepares (reads name (in_limit next)) before after (Err why)
 read_stopped name before after next why read = record { files = read.files; gives = read.gives next }
+
+-- ---- after a configuration was read and its zones opened
+
+config_ends : (contents : List ℕ → Option (List ℕ)) (text : List ℕ) (next : Config → Plan) (config : Config) (end : End) → IsUsable text config → Ends contents (next config) end → Ends contents (with_zones text next) end
+config_ends contents text next config end use_it ends = inl (config, use_it.said, subst (λ (o : Option ℕ). Ends contents (unless_refused o (next config)) end) (sym use_it.given) ends)
+
+config_reaches : (contents : List ℕ → Option (List ℕ)) (text : List ℕ) (next : Config → Plan) (config : Config) (name : List ℕ) → IsUsable text config → Reaches contents (next config) name → Reaches contents (with_zones text next) name
+config_reaches contents text next config name use_it reached = (config, use_it.said, subst (λ (o : Option ℕ). Reaches contents (unless_refused o (next config)) name) (sym use_it.given) reached)
+
+config_stops : (text : List ℕ) (before after : Files) (next : Config → Plan) (config : Config) (why : Stop) → IsUsable text config → Stops (next config) before after why → Stops (with_zones text next) before after why
+config_stops text before after next config (Refused refusal) use_it stops = (config_ends before.contents text next config (refused refusal) use_it stops.0, stops.1)
+config_stops text before after next config ReadFault use_it unread = record { name = unread.name; named = config_reaches before.contents text next config unread.name use_it unread.named; rose = unread.rose }
+config_stops text before after next config NoMemory use_it calm = calm
+
+-- a plan that uses a configuration goes on by it
+pub config_prepares : (text : List ℕ) (before after : Files) (next : Config → Plan) (config : Config) (prepared : Result (List ℕ) Stop) → IsUsable text config → Prepares (next config) before after prepared → Prepares (with_zones text next) before after prepared
+config_prepares text before after next config (Ok written_text) use_it went =
+    let prints = went.gives.0 in
+    record {
+      files = went.files;
+      gives = (record { told = prints.told; ends = config_ends before.contents text next config (written prints.told) use_it prints.ends; shown = prints.shown }, went.gives.1);
+    }
+config_prepares text before after next config (Err why) use_it went = record { files = went.files; gives = config_stops text before after next config why use_it went.gives }
+
+-- a plan that can't use it stops
+pub config_stopped : (text : List ℕ) (files : Files) (next : Config → Plan) (why : Stop) → OpensConfig text (Err why) → Prepares (with_zones text next) files files (Err why)
+config_stopped text files next (Refused refusal) h = record { files = record { kept = λ name. refl; later = λ name. omega arith }; gives = (h files.contents next, λ name. refl) }
+config_stopped text files next ReadFault h = absurd h
+config_stopped text files next NoMemory h = record { files = record { kept = λ name. refl; later = λ name. omega arith }; gives = λ name. refl }

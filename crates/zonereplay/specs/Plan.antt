@@ -11,12 +11,15 @@ use Rattle.replay_log.specs.declared.keys.KeyLine.{KeyLine}
 use Rattle.zonereplay.specs.declared.stop.Refusal.{Refusal}
 use Rattle.zonereplay.specs.declared.stop.Refusal.TheVariants.{Usage, TooLong, Text, Rule, Log}
 use Rattle.zonereplay.specs.Words.{Command, OneJob, command_of}
-use Rattle.zonereplay.specs.Words.Command.{one, check}
+use Rattle.zonereplay.specs.Words.Command.{one, check, plain}
 use Rattle.replay_log.specs.Lines.{Fault}
 use Rattle.replay_log.specs.Keys.{keys_of}
+use Rattle.replay_log.specs.Requests.{requests_of}
+use Rattle.replay_log.specs.declared.line.Line.{Line}
+use Rattle.replay_share.specs.Opening.{refused_line}
 use Rattle.zonereplay.specs.OneText.{one_text}
 use Rattle.zonereplay.specs.Told.{Told}
-use Rattle.zonereplay.specs.Told.Told.{exactly}
+use Rattle.zonereplay.specs.Told.Told.{exactly, replay}
 
 -- the steps that are left
 pub data Plan : Type 0 where
@@ -75,19 +78,42 @@ one_run job (Err fault) = refuses (Log fault.line fault.kind)
 abbrev pub one_plan : OneJob → List ℕ → Plan
 one_plan job log = reads log (in_limit (λ text. one_run job (keys_of text)))
 
+-- what follows where no zone lacks a block for a server; else the configuration is refused at the line of the first that does
+abbrev pub unless_refused : Option ℕ → Plan → Plan
+unless_refused None next = next
+unless_refused (Some line) next = refuses (Rule line 19)
+
+-- the configuration of a text is read, and its zones are opened
+abbrev pub with_zones : List ℕ → (Config → Plan) → Plan
+with_zones text next = configures text (λ config. unless_refused (refused_line config.zones) (next config))
+
 -- what the configuration of a text says is written
 abbrev pub check_run : List ℕ → Plan
-check_run text = configures text (λ config. writes (exactly (check_text config)))
+check_run text = with_zones text (λ config. writes (exactly (check_text config)))
 
 -- `check CONFIG`
 abbrev pub check_plan : List ℕ → Plan
 check_plan name = reads name (in_limit check_run)
+
+-- the lines are replayed on one worker, or the log's first fault is told
+abbrev pub plain_run : Config → Result (List Line) Fault → Plan
+plain_run config (Ok lines) = writes (replay config 1 lines)
+plain_run config (Err fault) = refuses (Log fault.line fault.kind)
+
+-- the log of this name is replayed in the zones of a configuration
+abbrev pub plain_log : List ℕ → Config → Plan
+plain_log log config = reads log (in_limit (λ text. plain_run config (requests_of config.locations text)))
+
+-- `plain CONFIG LOG`
+abbrev pub plain_plan : List ℕ → List ℕ → Plan
+plain_plan name log = reads name (in_limit (λ text. with_zones text (plain_log log)))
 
 -- words of no form are refused
 abbrev pub plan_for : Option Command → Plan
 plan_for None = refuses Usage
 plan_for (Some (one job log)) = one_plan job log
 plan_for (Some (check config)) = check_plan config
+plan_for (Some (plain config log)) = plain_plan config log
 
 abbrev pub plan_of : List (List ℕ) → Plan
 plan_of words = plan_for (command_of words)

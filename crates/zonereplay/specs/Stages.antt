@@ -1,9 +1,10 @@
 -- The stages of a command: it reads its texts, prepares all that it writes, and concludes.
-use Rattle.std.specs.Prelude.{ℕ, ◌≡◌, ◌≤◌, ◌⊎◌, List, [], length, Option, Result, Ok, Err, MatchResult}
+use Rattle.std.specs.Prelude.{ℕ, ◌≡◌, ◌≤◌, ◌⊎◌, List, [], length, Option, None, Result, Ok, Err, MatchResult}
 use Rattle.std.specs.declared.vec.Vec.{Vec}
 use Rattle.std.specs.declared.alloc.Global.{Global}
 use Rattle.zone_config.specs.declared.data.Config.{Config}
-use Rattle.zone_config.specs.Conditions.{AreZones}
+use Rattle.zone_config.specs.Conditions.{IsConfig}
+use Rattle.replay_share.specs.Opening.{refused_line}
 use Rattle.zonereplay.specs.declared.status.Status.{Status}
 use Rattle.zonereplay.specs.declared.status.Status.TheVariants.{Done, ConfigFault, LogFault, WriteFault, NoMemory}
 use Rattle.zonereplay.specs.declared.stop.Refusal.TheVariants.{Text, Rule, Log}
@@ -11,9 +12,9 @@ use Rattle.zonereplay.specs.declared.stop.Stop.{Stop}
 use Rattle.zonereplay.specs.declared.stop.Stop.TheVariants as stop
 use Rattle.zonereplay.specs.Stops.{status_of, line_of}
 use Rattle.zonereplay.specs.Told.{Told, Shows}
-use Rattle.zonereplay.specs.Plan.{Plan, SaysConfig, IsWrong, Ends, MayHold, in_limit, text_limit}
+use Rattle.zonereplay.specs.Plan.{Plan, SaysConfig, IsWrong, Ends, MayHold, in_limit, text_limit, with_zones}
 use Rattle.zonereplay.specs.Plan.Plan.{reads}
-use Rattle.zonereplay.specs.Plan.End.{written}
+use Rattle.zonereplay.specs.Plan.End.{refused, written}
 use Rattle.zonereplay.specs.Devices.{Files, Taken, FilesCalm, TakesWhole, TakesNone, TakesPart, TakesFault, Tries, write_fault}
 use Rattle.zonereplay.specs.Answers.{Stops}
 use Rattle.zone_outside.specs.Buffers.{Buffer}
@@ -35,12 +36,25 @@ pub record ReadsText (name : List ℕ) (before after : Files) (read : Result (Ve
   pub files : FilesKept before after
   pub gives : MatchResult read (λ text. IsTextOf (before.contents name) text.items × FilesCalm before after) (λ why. (next : List ℕ → Plan) → Stops (reads name (in_limit next)) before after why)
 
--- a configuration was read: what the directives of the text say, whose zones are in their limits; or what is wrong with it; or there was no memory
+-- a configuration was read: what the directives of the text say, in its limits; or what is wrong with it; or there was no memory
 abbrev pub Configures : List ℕ → Result Config Stop → Type 0
-Configures text (Ok config) = SaysConfig text config × AreZones config.zones
+Configures text (Ok config) = SaysConfig text config × IsConfig config
 Configures text (Err (stop.Refused refusal)) = IsWrong text refusal
 Configures text (Err stop.ReadFault) = ⊥
 Configures text (Err stop.NoMemory) = Unit {0}
+
+-- a configuration can be used: it was read, and each of its zones has its blocks
+pub record IsUsable (text : List ℕ) (config : Config) : Type 0 where
+  pub said : SaysConfig text config
+  pub limits : IsConfig config
+  pub given : refused_line config.zones ≡ None
+
+-- its zones were opened too; or it is refused, whatever would follow; or there was no memory
+abbrev pub OpensConfig : List ℕ → Result Config Stop → Type 0
+OpensConfig text (Ok config) = IsUsable text config
+OpensConfig text (Err (stop.Refused refusal)) = (contents : List ℕ → Option (List ℕ)) (next : Config → Plan) → Ends contents (with_zones text next) (refused refusal)
+OpensConfig text (Err stop.ReadFault) = ⊥
+OpensConfig text (Err stop.NoMemory) = Unit {0}
 
 -- ---- preparing
 

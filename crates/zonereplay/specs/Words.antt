@@ -61,6 +61,8 @@ pub data Command : Type 0 where
   one : (job : OneJob) (log : List ℕ) → Command
   -- a configuration is read, by its name
   check : (config : List ℕ) → Command
+  -- a log of requests is replayed on one worker in the zones of a configuration, by their names
+  plain : (config log : List ℕ) → Command
 
 -- the job, where each of its numbers was read
 abbrev pub one_job : Option ℕ → Option ℕ → Option ℕ → List ℕ → Option Command
@@ -78,6 +80,11 @@ abbrev pub check_of : List (List ℕ) → Option Command
 check_of (command ∷ config ∷ []) = if bytes_eq command (codes "check") then Some (check config) else None
 check_of words = None
 
+-- `plain CONFIG LOG`
+abbrev pub plain_of : List (List ℕ) → Option Command
+plain_of (command ∷ config ∷ log ∷ []) = if bytes_eq command (codes "plain") then Some (plain config log) else None
+plain_of words = None
+
 -- the first of two that is there
 abbrev pub first_form : Option Command → Option Command → Option Command
 first_form None second = second
@@ -85,4 +92,4 @@ first_form (Some command) second = Some command
 
 -- what the words ask for, none where they are of none of the forms that are built
 abbrev pub command_of : List (List ℕ) → Option Command
-command_of words = first_form (one_of words) (check_of words)
+command_of words = first_form (one_of words) (first_form (check_of words) (plain_of words))

@@ -1,15 +1,16 @@
 ghost use Rattle.std.specs.Prelude.{IsSome};
-ghost use Rattle.zonereplay.specs.Words.{one_of, check_of};
+ghost use Rattle.zonereplay.specs.Words.{one_of, check_of, plain_of};
 ghost use Rattle.zonereplay.specs.Plan.{plan_of};
 ghost use Rattle.zonereplay.specs.Answers.{Does};
 ghost use Rattle.zonereplay.specs.Stages.{Concludes};
 
 use crate::output::write_lines;
+use crate::plain::prepare_plain;
 use crate::prepare::{prepare_check, prepare_one};
 use crate::status::Status;
 use crate::stop::Stop;
 use crate::tell::{tell_stop, tell_write_fault};
-use crate::words::{read_check, read_one};
+use crate::words::{read_check, read_one, read_plain};
 use std::alloc::Global;
 use zone_outside::{Shelf, Sink, Text};
 
@@ -89,5 +90,35 @@ pub fn check_command<F: Shelf, O: Sink, E: Sink>(
         unreachable!()
     };
     let prepared = prepare_check(alloc, name, files);
+    conclude(alloc, prepared, out, err).code()
+}
+
+/// Replays a log of requests on one worker in the zones of a configuration, and writes what is decided of each line and
+/// each zone's history. The words are `plain CONFIG LOG`.
+pub fn plain_command<F: Shelf, O: Sink, E: Sink>(
+    alloc: Global,
+    words: &[Text],
+    files: &mut F,
+    out: &mut O,
+    err: &mut E,
+) -> u8
+    requires { IsSome (plain_of words.now) }
+    ensures { Does (plan_of words.now)
+        (record {
+          files = record { contents = F.contents files.old; faults = F.faults files.old };
+          out = record { text = O.taken out.old; faults = O.faults out.old };
+          err = record { text = E.taken err.old; faults = E.faults err.old };
+        })
+        (record {
+          files = record { contents = F.contents files.new; faults = F.faults files.new };
+          out = record { text = O.taken out.new; faults = O.faults out.new };
+          err = record { text = E.taken err.new; faults = E.faults err.new };
+        })
+        result }
+{
+    let Some((name, log)) = read_plain(words) else {
+        unreachable!()
+    };
+    let prepared = prepare_plain(alloc, name, log, files);
     conclude(alloc, prepared, out, err).code()
 }

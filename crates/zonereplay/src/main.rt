@@ -6,6 +6,7 @@ mod commands;
 mod job;
 mod one;
 mod output;
+mod plain;
 mod prepare;
 mod run;
 mod status;

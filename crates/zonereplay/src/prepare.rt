@@ -2,7 +2,7 @@ ghost use Rattle.replay_log.specs.Keys.{keys_of};
 ghost use Rattle.zonereplay.specs.Jobs.{asked};
 ghost use Rattle.zonereplay.specs.Plan.{one_plan, one_run, check_plan, check_run};
 ghost use Rattle.zonereplay.specs.Devices.{Files};
-ghost use Rattle.zonereplay.specs.Stages.{Configures, Prepares, ReadsText};
+ghost use Rattle.zonereplay.specs.Stages.{Configures, OpensConfig, Prepares, ReadsText};
 
 use crate::job::Job;
 use crate::one::text_of;
@@ -10,6 +10,7 @@ use crate::stop::{Refusal, Stop};
 use decision_text::check_text;
 use directive_text::{TextFault, read};
 use replay_log::{LogFault, read_keys};
+use replay_share::refused_line;
 use std::alloc::Global;
 use zone_config::{Config, ConfigFault, config_of};
 use zone_outside::{ReadAnswer, Shelf, Text, read_named};
@@ -17,8 +18,11 @@ use zone_outside::{ReadAnswer, Shelf, Text, read_named};
 /// The most bytes of a text that is read.
 const TEXT_LIMIT: u64 = 16_777_216;
 
+/// The rule that each upstream's zone has a block for each of its servers.
+const NO_BLOCK: u32 = 19;
+
 /// The text of a file, opened, read to its end and settled.
-fn read_text<F: Shelf>(alloc: Global, files: &mut F, name: &Text) -> Result<Vec<u8>, Stop>
+pub(crate) fn read_text<F: Shelf>(alloc: Global, files: &mut F, name: &Text) -> Result<Vec<u8>, Stop>
     ensures { ReadsText name.now
         (record { contents = F.contents files.old; faults = F.faults files.old })
         (record { contents = F.contents files.new; faults = F.faults files.new })
@@ -88,11 +92,23 @@ fn read_config(alloc: Global, text: &[u8]) -> Result<Config, Stop>
     }
 }
 
+/// The configuration of a text, each of whose zones has a block for each server, or why it is refused.
+pub(crate) fn open_config(alloc: Global, text: &[u8]) -> Result<Config, Stop>
+    ensures { OpensConfig text.now result }
+{
+    let config = read_config(alloc, text)?;
+    match refused_line(alloc, config.zones.as_slice()) {
+        Ok(None) => Ok(config),
+        Ok(Some(line)) => Err(Stop::Refused(Refusal::Rule { line, rule: NO_BLOCK })),
+        Err(_) => Err(Stop::NoMemory),
+    }
+}
+
 /// The text of `check` for a configuration's text. It leaves the files alone, whatever they are.
 fn run_check(alloc: Global, text: &[u8]) -> Result<Text, Stop>
     ensures { (files : Files) → Prepares (check_run text.now) files files result }
 {
-    let config = read_config(alloc, text)?;
+    let config = open_config(alloc, text)?;
     match check_text(alloc, &config) {
         Ok(written) => Ok(written),
         Err(_) => Err(Stop::NoMemory),

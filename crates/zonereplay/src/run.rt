@@ -3,10 +3,10 @@ ghost use Rattle.zonereplay.specs.Words.{command_of};
 ghost use Rattle.zonereplay.specs.Plan.{plan_of};
 ghost use Rattle.zonereplay.specs.Answers.{Does};
 
-use crate::commands::{check_command, one_command};
+use crate::commands::{check_command, one_command, plain_command};
 use crate::stop::{Refusal, Stop};
 use crate::tell::tell_stop;
-use crate::words::{read_check, read_one};
+use crate::words::{read_check, read_one, read_plain};
 use std::alloc::Global;
 use zone_outside::{Shelf, Sink, Text};
 
@@ -53,7 +53,10 @@ pub fn run<R, F: Shelf, O: Sink, E: Sink>(
         Some(_) => one_command(alloc, words, files, out, err),
         None => match read_check(words) {
             Some(_) => check_command(alloc, words, files, out, err),
-            None => tell_stop(alloc, err, Stop::Refused(Refusal::Usage)).code(),
+            None => match read_plain(words) {
+                Some(_) => plain_command(alloc, words, files, out, err),
+                None => tell_stop(alloc, err, Stop::Refused(Refusal::Usage)).code(),
+            },
         },
     }
 }

@@ -1,7 +1,7 @@
 ghost use Rattle.std.specs.Prelude.{◌≡◌, ◌≤◌, IfSome, MatchOption, Some, None};
 ghost use Rattle.req_zone.specs.Amount.{IsRate, greatest_burst};
-ghost use Rattle.zonereplay.specs.Words.{rate_of, burst_of, unit_of, size_of, one_of, check_of};
-ghost use Rattle.zonereplay.specs.Words.Command.{one, check};
+ghost use Rattle.zonereplay.specs.Words.{rate_of, burst_of, unit_of, size_of, one_of, check_of, plain_of};
+ghost use Rattle.zonereplay.specs.Words.Command.{one, check, plain};
 ghost use Rattle.zonereplay.specs.Jobs.{asked};
 
 use crate::job::Job;
@@ -79,4 +79,14 @@ pub(crate) fn read_check(words: &[Text]) -> Option<&Text>
         return None;
     };
     (command.bytes() == b"check".as_slice()).then_some(config)
+}
+
+/// What the words `plain CONFIG LOG` ask for: the names of the configuration and of the log.
+pub(crate) fn read_plain(words: &[Text]) -> Option<(&Text, &Text)>
+    ensures { MatchOption result (plain_of words.now ≡ None) (λ names. plain_of words.now ≡ Some (plain names.0.now names.1.now)) }
+{
+    let [command, config, log] = words else {
+        return None;
+    };
+    (command.bytes() == b"plain".as_slice()).then_some((config, log))
 }
