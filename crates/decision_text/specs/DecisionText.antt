@@ -1,5 +1,5 @@
 -- The line that tells what is decided of a line of a log.
-use Rattle.std.specs.Prelude.{ℕ, ◌<◌, nat_eq, if◌then◌else◌, List, [], ◌++◌, length, slice_get, Option, None, Some, IfSome, codes, decimal}
+use Rattle.std.specs.Prelude.{ℕ, nat_eq, if◌then◌else◌, List, [], ◌++◌, length, slice_get, Option, None, Some, codes, decimal}
 use Rattle.zone_config.specs.declared.data.Config.{Config}
 use Rattle.zone_config.specs.declared.data.ServerData.{ServerData}
 use Rattle.zone_config.specs.declared.data.ZoneSpec.{ZoneSpec}
@@ -104,26 +104,3 @@ decision_words zones IdleDone = codes "done idle"
 -- a line's number, its connection, and what is decided of it
 abbrev pub decision_text : Config → Line → Decision → List ℕ
 decision_text config line decision = decimal line.number ++ codes " " ++ decimal line.conn ++ codes " " ++ decision_words config.zones decision ++ codes "\n"
-
--- ---- what a decision may name
-
--- the configuration has the zone of this number
-abbrev pub HasZone : Config → ℕ → Type 0
-HasZone config zone = zone < length config.zones
-
--- and this server
-abbrev pub HasServer : Config → PeerAt → Type 0
-HasServer config peer = peer.index < length (servers_beside config.zones peer)
-
--- and the zone that limits of connections name
-abbrev pub HasConnZone : Config → ConnStatus → Type 0
-HasConnZone config conn.Unset = Unit {0}
-HasConnZone config conn.Passed = Unit {0}
-HasConnZone config (conn.Rejected zone) = HasZone config zone
-HasConnZone config (conn.RejectedDry zone) = HasZone config zone
-
--- each zone and each server that a decision names is one of the configuration's
-abbrev pub IsNamed : Config → Decision → Type 0
-IsNamed config (Started outcome req delay by excess conn peer) = IfSome by (HasZone config) × HasConnZone config conn × IfSome peer (HasServer config)
-IsNamed config (NextPeer peer) = HasServer config peer
-IsNamed config _ = Unit {0}

@@ -1,6 +1,6 @@
 ghost use Rattle.std.specs.Prelude.{◌≡◌, ◌++◌, OnOk, slice_get};
 ghost use Rattle.request_script.specs.Zones.{primary_in, backup_in};
-ghost use Rattle.decision_text.specs.DecisionText.{name_word, servers_in, servers_beside, server_word, outcome_word, req_word, by_word, excess_word, req_words, conn_word, peer_word, decision_words, decision_text, IsNamed};
+ghost use Rattle.decision_text.specs.DecisionText.{name_word, servers_in, servers_beside, server_word, outcome_word, req_word, by_word, excess_word, req_words, conn_word, peer_word, decision_words, decision_text};
 
 use crate::check::name_of;
 use crate::coding::push_coded;
@@ -38,7 +38,7 @@ fn push_with_name(
 }
 
 /// The servers of the list that a server stands in.
-pub(crate) fn servers_beside(zones: &[ZoneSpec], peer: PeerAt) -> &[ServerData]
+fn servers_beside(zones: &[ZoneSpec], peer: PeerAt) -> &[ServerData]
     ensures { result.now ≡ servers_beside zones.now peer }
 {
     match zones.get(peer.zone as usize) {
@@ -208,7 +208,6 @@ pub fn push_decision(
     line: &Line,
     decision: Decision,
 ) -> Result<(), NoMemory>
-    requires { IsNamed config.now decision }
     ensures { OnOk result (text.new.items ≡ text.old.items ++ decision_text config.now line.now decision) }
 {
     push_number(text, u64::from(line.number))?;

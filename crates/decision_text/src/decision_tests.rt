@@ -1,13 +1,9 @@
-ghost use Rattle.std.specs.Prelude.{◌≡◌, true, IfSome};
-ghost use Rattle.decision_text.specs.DecisionText.{HasZone, HasServer, HasConnZone, IsNamed};
-
-use crate::decision::servers_beside;
 use crate::push_decision;
 use directive_text::read;
 use replay_log::{Event, Line};
 use request_script::{ConnStatus, Decision, Excess, Outcome, PeerAt, ReqStatus};
 use std::test::Fail;
-use zone_config::{Config, config_of};
+use zone_config::config_of;
 
 /// Directives with a zone of each kind, and names that have other bytes than a word.
 const DIRECTIVES: &[u8] = b"http {
@@ -155,64 +151,6 @@ const TEXT: &str = "1 0 open pass req=- delay=0 by=- excess=- conn=- peer=-
 14 0 done idle
 ";
 
-/// Whether a configuration has a zone.
-fn has_zone(config: &Config, zone: u32) -> bool
-    ensures { result ≡ true → HasZone config.now zone }
-{
-    (zone as usize) < config.zones.as_slice().len()
-}
-
-/// Whether it has a server.
-fn has_server(config: &Config, peer: PeerAt) -> bool
-    ensures { result ≡ true → HasServer config.now peer }
-{
-    (peer.index as usize) < servers_beside(config.zones.as_slice(), peer).len()
-}
-
-/// Whether it has the zone that limits of connections name.
-fn has_conn_zone(config: &Config, status: ConnStatus) -> bool
-    ensures { result ≡ true → HasConnZone config.now status }
-{
-    match status {
-        ConnStatus::Unset | ConnStatus::Passed => true,
-        ConnStatus::Rejected { zone } => has_zone(config, zone),
-        ConnStatus::RejectedDry { zone } => has_zone(config, zone),
-    }
-}
-
-/// Whether it has the zone of the limit that delays or refuses a request.
-fn has_by(config: &Config, by: Option<u32>) -> bool
-    ensures { result ≡ true → IfSome by (HasZone config.now) }
-{
-    match by {
-        Some(zone) => has_zone(config, zone),
-        None => true,
-    }
-}
-
-/// Whether it has the server that takes a request.
-fn has_peer(config: &Config, peer: Option<PeerAt>) -> bool
-    ensures { result ≡ true → IfSome peer (HasServer config.now) }
-{
-    match peer {
-        Some(peer) => has_server(config, peer),
-        None => true,
-    }
-}
-
-/// Whether it has all that a decision names.
-fn is_named(config: &Config, decision: Decision) -> bool
-    ensures { result ≡ true → IsNamed config.now decision }
-{
-    match decision {
-        Decision::Started { by, conn, peer, .. } => {
-            has_by(config, by) && has_conn_zone(config, conn) && has_peer(config, peer)
-        }
-        Decision::NextPeer { peer } => has_server(config, peer),
-        _ => true,
-    }
-}
-
 #[test]
 fn decisions(rt: HostRuntime) -> Result<(), Fail> {
     let config = config_of(rt.alloc(), &read(rt.alloc(), DIRECTIVES)?)?;
@@ -226,8 +164,6 @@ fn decisions(rt: HostRuntime) -> Result<(), Fail> {
             conn,
             event: Event::Done,
         };
-        let named = is_named(&config, decision);
-        assert!(rt; named);
         push_decision(&mut text, &config, &line, decision)?;
     }
     assert_eq!(rt; text.as_slice(), TEXT.as_bytes());

@@ -1,6 +1,6 @@
 -- The text of a replay: a line for each decision, and then each zone's history and how full the zone is after it.
-use Rattle.std.specs.Prelude.{ℕ, ◌+◌, List, [], ◌∷◌, ◌++◌, length, map, codes}
-use Rattle.std.specs.List.{concat}
+use Rattle.std.specs.Prelude.{ℕ, ◌+◌, List, [], ◌∷◌, ◌++◌, length, codes}
+use Rattle.std.specs.List.{flat_map}
 use Rattle.slab_model.specs.State.{Slab, pages_in}
 use Rattle.slab_model.specs.Counting.{free_pages}
 use Rattle.zone_object.specs.History.{run}
@@ -11,6 +11,9 @@ use Rattle.conn_zone.specs.Object as conn
 use Rattle.peer_zone.specs.declared.state.PeerState.{PeerState}
 use Rattle.peer_zone.specs.Object as peer
 use Rattle.zone_config.specs.declared.data.Config.{Config}
+use Rattle.zone_config.specs.declared.data.ReqData.{ReqData}
+use Rattle.zone_config.specs.declared.data.ConnData.{ConnData}
+use Rattle.zone_config.specs.declared.data.PeerData.{PeerData}
 use Rattle.zone_config.specs.declared.data.ZoneSpec.{ZoneSpec}
 use Rattle.zone_config.specs.declared.data.ZoneSpec.TheVariants as zone
 use Rattle.decision_text.specs.DecisionText.{decision_text}
@@ -28,18 +31,20 @@ decided_line config d = decision_text config d.line d.decision
 
 -- ---- the histories
 
--- the lines of a history, of which the first stands at this place
-abbrev pub req_lines : ℕ → List ReqEntry → List ℕ
-req_lines place [] = []
-req_lines place (e ∷ es) = entry_line place e.caller (req_call_words e.call) (req_reply_words e.reply) ++ req_lines (place + 1) es
+-- the lines of entries, of which the first stands at this place of a history
+abbrev pub lines_from : {E : Type 0} → (ℕ → E → List ℕ) → ℕ → List E → List ℕ
+lines_from line place [] = []
+lines_from line place (e ∷ es) = line place e ++ lines_from line (place + 1) es
 
-abbrev pub conn_lines : ℕ → List ConnEntry → List ℕ
-conn_lines place [] = []
-conn_lines place (e ∷ es) = entry_line place e.caller (conn_call_words e.call) (conn_reply_words e.reply) ++ conn_lines (place + 1) es
+-- the line of an entry at its place
+abbrev pub req_line : ℕ → ReqEntry → List ℕ
+req_line place e = entry_line place e.caller (req_call_words e.call) (req_reply_words e.reply)
 
-abbrev pub peer_lines : ℕ → List PeerEntry → List ℕ
-peer_lines place [] = []
-peer_lines place (e ∷ es) = entry_line place e.caller (peer_call_words e.call) (peer_reply_words e.reply) ++ peer_lines (place + 1) es
+abbrev pub conn_line : ℕ → ConnEntry → List ℕ
+conn_line place e = entry_line place e.caller (conn_call_words e.call) (conn_reply_words e.reply)
+
+abbrev pub peer_line : ℕ → PeerEntry → List ℕ
+peer_line place e = entry_line place e.caller (peer_call_words e.call) (peer_reply_words e.reply)
 
 -- how full a zone is that has so many entries
 abbrev pub tail_of : Slab → ℕ → List ℕ
@@ -56,10 +61,20 @@ abbrev pub peer_tail : PeerState → List ℕ
 peer_tail s = tail_of s.slab (length s.primary + length s.backup)
 
 -- a zone's history: the line that begins it, a line for each call, and how full the zone is after them
+abbrev pub req_text : ReqData → List ReqEntry → List ℕ
+req_text spec log = zone_head spec.name (codes " req ") (length log) ++ lines_from req_line 1 log ++ req_tail (run req.zone_after (req_opened spec) log)
+
+abbrev pub conn_text : ConnData → List ConnEntry → List ℕ
+conn_text spec log = zone_head spec.name (codes " conn ") (length log) ++ lines_from conn_line 1 log ++ conn_tail (run conn.zone_after (conn_opened spec) log)
+
+abbrev pub peer_text : PeerData → List PeerEntry → List ℕ
+peer_text spec log = zone_head spec.name (codes " peer ") (length log) ++ lines_from peer_line 1 log ++ peer_tail (run peer.zone_after (peer_opened spec) log)
+
+-- that of any zone
 abbrev pub zone_text : ZoneSpec → ZoneLog → List ℕ
-zone_text (zone.Req spec key) (req_log log) = zone_head spec.name (codes " req ") (length log) ++ req_lines 1 log ++ req_tail (run req.zone_after (req_opened spec) log)
-zone_text (zone.Conn spec key) (conn_log log) = zone_head spec.name (codes " conn ") (length log) ++ conn_lines 1 log ++ conn_tail (run conn.zone_after (conn_opened spec) log)
-zone_text (zone.Peer spec line) (peer_log log) = zone_head spec.name (codes " peer ") (length log) ++ peer_lines 1 log ++ peer_tail (run peer.zone_after (peer_opened spec) log)
+zone_text (zone.Req spec key) (req_log log) = req_text spec log
+zone_text (zone.Conn spec key) (conn_log log) = conn_text spec log
+zone_text (zone.Peer spec line) (peer_log log) = peer_text spec log
 zone_text _ _ = []
 
 -- those of all zones, in the order of the zones
@@ -71,4 +86,4 @@ zones_text _ _ = []
 
 -- The text of a replay: the decisions in the order of their lines, and the histories in the order of the zones.
 abbrev pub replay_text : Config → List Decided → List ZoneLog → List ℕ
-replay_text config decided logs = concat (map (decided_line config) decided) ++ zones_text config.zones logs
+replay_text config decided logs = flat_map (decided_line config) decided ++ zones_text config.zones logs

@@ -1,0 +1,9 @@
+use Rattle.std.proofs.Common.{◌≡◌, ◌+◌, ◌++◌, take}
+use Rattle.replay_text.specs.ReplayText.{lines_from, req_line}
+use Rattle.replay_text.proofs.histories.push_req_lines.Given as goal
+
+abbrev pub invariant-loop-entry : goal.invariant-loop-entry
+invariant-loop-entry l = record {
+  placed : l.place ≡ l.entry-index + 1;
+  grown : l.text.items ≡ l.initial.text.items ++ lines_from req_line 1 (take l.entry-index l.entries);
+}
