@@ -76,7 +76,7 @@ plays_alone config room journals lines decisions pair h =
       asked = h.asked;
       table = h.table;
       drives = subst (λ (l : List Line). Drives config nothing_active l h.asked (map decision_of pair.decided) h.table) (sym pair.lines_are)
-        (subst (λ (ds : List Decision). Drives config nothing_active lines h.asked ds h.table) (sym pair.decisions_are) h.drives);
+          (subst (λ (ds : List Decision). Drives config nothing_active lines h.asked ds h.table) (sym pair.decisions_are) h.drives);
       parts = h.served.parts;
       kinds = h.served.kinds;
     } in

@@ -19,10 +19,9 @@ use Rattle.peer_zone.specs.Object as peer
 use Rattle.request_script.specs.Replies.{HasSmallExcess, HasSmallIndex}
 
 module _ {X St C R : Type 0} (is_quiet : St → Type 0) (reply_of : St → C → R) (state_after : St → C → St) (permits : List (Entry X St C R) → C → Type 0)
-  (ready : St → C → Type 0) (can_answer : St → C → R → Type 0)
-  (each_ready : (start : St) (log : List (Entry X St C R)) → IsHistory is_quiet reply_of state_after permits start log → IsReady state_after ready start log)
-  (each_can : (s : St) (call : C) → ready s call → can_answer s call (reply_of s call)) where
-
+    (ready : St → C → Type 0) (can_answer : St → C → R → Type 0)
+    (each_ready : (start : St) (log : List (Entry X St C R)) → IsHistory is_quiet reply_of state_after permits start log → IsReady state_after ready start log)
+    (each_can : (s : St) (call : C) → ready s call → can_answer s call (reply_of s call)) where
   pub last_ready : (s : St) (log : List (Entry X St C R)) (e : Entry X St C R) → IsHistory is_quiet reply_of state_after permits s (log ++ e ∷ []) → ready (run state_after s log) e.call
   last_ready s log e h = (at_each-rest state_after (λ t x. ready t x.call) s log (e ∷ []) (each_ready s (log ++ e ∷ []) h)).0
 

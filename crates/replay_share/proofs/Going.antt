@@ -58,8 +58,7 @@ decides_so (asks c next) decision is = elim (subst IsTold is tt) [ ]
 decides_so (decides d active) decision is = (active, ap (λ (x : Decision). decides x active) (sym (ap (decision_in d) is)))
 
 module _ (config : Config) (is_config : IsConfig config) (line : Line) (is_line : IsLineOf (length config.locations) line) (lines : List Line) (are_lines : All (IsLineOf (length config.locations)) lines)
-  (decisions : List Decision) (before : ScriptState) where
-
+    (decisions : List Decision) (before : ScriptState) where
   -- ---- the beginning
 
   pub starts : (S : List Exchange → Type 0) (script : ScriptState) (next : Next) (h : HasDecided S config before lines decisions) → Comes before script line.conn (begins before line) next → IsUnderWay S before script line h.asked next 0

@@ -40,12 +40,15 @@ pub runs_peer : (given : PeerData) (room : ℕ) (spec : PeerSpec) (zone : PeerWo
     → HasRun opening.IsOpened Lays peer.answer_of peer.zone_after peer.Permits (opening.opened_zone spec) journal.object journal.log → opening.refused_server spec ≡ None
     → RunsPeer given room journal × (journal.log ≡ []) × (opening.refused_server (peer_spec given) ≡ None)
 runs_peer given room spec zone journal spec_is is ran none =
-    let empty : journal.log ≡ [] = ap (λ (j : Recorded PeerWords PeerEntry). j.log) is in
-    (record {
-      room_is = ap (λ (j : Recorded PeerWords PeerEntry). j.room) is;
-      ran = subst (λ (s : PeerSpec). HasRun opening.IsOpened Lays peer.answer_of peer.zone_after peer.Permits (opening.opened_zone s) journal.object journal.log) spec_is ran;
-      mine = subst (λ (l : List PeerEntry). All (λ (e : PeerEntry). e.caller < 1) l) (sym empty) (All-nil (λ (e : PeerEntry). e.caller < 1));
-    }, empty, ap opening.refused_server (sym spec_is) ∙ none)
+    let empty : journal.log ≡ [] = ap (λ (j : Recorded PeerWords PeerEntry). j.log) is in (
+      record {
+        room_is = ap (λ (j : Recorded PeerWords PeerEntry). j.room) is;
+        ran = subst (λ (s : PeerSpec). HasRun opening.IsOpened Lays peer.answer_of peer.zone_after peer.Permits (opening.opened_zone s) journal.object journal.log) spec_is ran;
+        mine = subst (λ (l : List PeerEntry). All (λ (e : PeerEntry). e.caller < 1) l) (sym empty) (All-nil (λ (e : PeerEntry). e.caller < 1));
+      },
+      empty,
+      ap opening.refused_server (sym spec_is) ∙ none,
+    )
 
 -- ---- all zones
 
@@ -96,14 +99,16 @@ pub opens-more : (room : ℕ) (zones : List ZoneSpec) (i : ℕ) (zone : ZoneSpec
     → AreFresh room (take (i + 1) zones) new × (refused_line zones ≡ refused_line (drop (i + 1) zones))
 opens-more room zones i zone journals new journal low is fresh rest one none new_is =
     let taken : take (i + 1) zones ≡ take i zones ++ zone ∷ [] = take_more zones i zone low ∙ ap (λ (z : ZoneSpec). take i zones ++ z ∷ []) (sym is) in
-    let left : drop i zones ≡ zone ∷ drop (i + 1) zones = drop_more zones i zone low ∙ ap (λ (z : ZoneSpec). z ∷ drop (i + 1) zones) (sym is) in
-    (subst (λ (l : List ZoneJournal). AreFresh room (take (i + 1) zones) l) (sym new_is)
-      (subst (λ (l : List ZoneSpec). AreFresh room l (journals ++ journal ∷ [])) (sym taken) (fresh-push room (take i zones) journals zone journal fresh one)),
-    rest ∙ ap refused_line left ∙ refused-rest zone (drop (i + 1) zones) none)
+    let left : drop i zones ≡ zone ∷ drop (i + 1) zones = drop_more zones i zone low ∙ ap (λ (z : ZoneSpec). z ∷ drop (i + 1) zones) (sym is) in (
+      subst (λ (l : List ZoneJournal). AreFresh room (take (i + 1) zones) l) (sym new_is)
+          (subst (λ (l : List ZoneSpec). AreFresh room l (journals ++ journal ∷ [])) (sym taken) (fresh-push room (take i zones) journals zone journal fresh one)),
+      rest ∙ ap refused_line left ∙ refused-rest zone (drop (i + 1) zones) none,
+    )
 
 pub opens-all : (room : ℕ) (zones : List ZoneSpec) (i : ℕ) (journals : List ZoneJournal) → length zones ≤ i → i ≤ length zones → AreFresh room (take i zones) journals → refused_line zones ≡ refused_line (drop i zones)
     → Serves journals zones room [] × (refused_line zones ≡ None)
 opens-all room zones i journals past within fresh rest =
-    let end : i ≡ length zones = omega (arith, past, within) in
-    (fresh-serves room zones journals (subst (λ (l : List ZoneSpec). AreFresh room l journals) (ap (λ (n : ℕ). take n zones) end ∙ take-length zones) fresh),
-    rest ∙ ap (λ (n : ℕ). refused_line (drop n zones)) end ∙ ap refused_line (drop-length zones))
+    let end : i ≡ length zones = omega (arith, past, within) in (
+      fresh-serves room zones journals (subst (λ (l : List ZoneSpec). AreFresh room l journals) (ap (λ (n : ℕ). take n zones) end ∙ take-length zones) fresh),
+      rest ∙ ap (λ (n : ℕ). refused_line (drop n zones)) end ∙ ap refused_line (drop-length zones),
+    )

@@ -45,7 +45,7 @@ module _ {A : Type 0} where
       slice_get-get_or (slice_set xs i y) j y (omega (arith, low, length-set xs i y)) ∙ ap Some (get_or-set_other xs i j y y differs) ∙ sym (slice_get-get_or xs j y low)
 
   get-set_other : (xs : List A) (i j : ℕ) (y : A) → j ≢ i → slice_get (slice_set xs i y) j ≡ slice_get xs j
-  get-set_other xs i j y differs = elim (low_or j (length xs)) [ | inl low ↦ get-set_within xs i j y differs low | inr past ↦ get-set_past xs i j y past ]
+  get-set_other xs i j y differs = elim (low_or j (length xs)) [ inl low ↦ get-set_within xs i j y differs low | inr past ↦ get-set_past xs i j y past ]
 
 -- ---- the zone that a call goes to
 
@@ -97,8 +97,7 @@ finds journals zones room asked call serves can =
 -- ---- all journals after a call
 
 module _ (journals : List ZoneJournal) (zones : List ZoneSpec) (room : ℕ) (asked : List Exchange) (call : ZoneCall) (reply : ZoneReply) (new : ZoneJournal)
-  (serves : Serves journals zones room asked) (found : Finds journals zones room asked call) (takes : TakesAs new found.spec room (asked ++ record { call = call; reply = reply } ∷ []) call) where
-
+    (serves : Serves journals zones room asked) (found : Finds journals zones room asked call) (takes : TakesAs new found.spec room (asked ++ record { call = call; reply = reply } ∷ []) call) where
   abbrev e : Exchange
   e = record { call = call; reply = reply }
 

@@ -22,7 +22,11 @@ const TEXT_LIMIT: u64 = 16_777_216;
 const NO_BLOCK: u32 = 19;
 
 /// The text of a file, opened, read to its end and settled.
-pub(crate) fn read_text<F: Shelf>(alloc: Global, files: &mut F, name: &Text) -> Result<Vec<u8>, Stop>
+pub(crate) fn read_text<F: Shelf>(
+    alloc: Global,
+    files: &mut F,
+    name: &Text,
+) -> Result<Vec<u8>, Stop>
     ensures { ReadsText name.now
         (record { contents = F.contents files.old; faults = F.faults files.old })
         (record { contents = F.contents files.new; faults = F.faults files.new })
@@ -99,7 +103,10 @@ pub(crate) fn open_config(alloc: Global, text: &[u8]) -> Result<Config, Stop>
     let config = read_config(alloc, text)?;
     match refused_line(alloc, config.zones.as_slice()) {
         Ok(None) => Ok(config),
-        Ok(Some(line)) => Err(Stop::Refused(Refusal::Rule { line, rule: NO_BLOCK })),
+        Ok(Some(line)) => Err(Stop::Refused(Refusal::Rule {
+            line,
+            rule: NO_BLOCK,
+        })),
         Err(_) => Err(Stop::NoMemory),
     }
 }

@@ -14,5 +14,5 @@ returns-clause-range c =
     let log = c.args.journal.now.log in
     let last : ReqEntry = entry 0 c.args.call c.call.result in
     let history : IsHistory IsOpened answer_of zone_after Permits start (log ++ last ∷ []) =
-        subst (λ (l : List ReqEntry). IsHistory IsOpened answer_of zone_after Permits start l) c.call.ensures.log (c.call.ensures.run start c.requires.ran.1).history in
+    subst (λ (l : List ReqEntry). IsHistory IsOpened answer_of zone_after Permits start l) c.call.ensures.log (c.call.ensures.run start c.requires.ran.1).history in
     small_excess (run zone_after start log) c.args.call c.call.result (last_answered IsOpened answer_of zone_after Permits Ready CanAnswer ready-law answer-law start log last history)

@@ -19,4 +19,4 @@ pub returns-in_ok-new-in-Ok : goal.returns-in_ok-new-in-Ok
 returns-in_ok-new-in-Ok c =
     let opened = opened_zone c.in_ok-spec.spec in
     runs_peer c.args.given.now c.args.room c.in_ok-spec.spec c.in-Ok.zone c.in_ok-new-in-Ok.field-0 c.in_ok-spec.ensures c.in_ok-new-in-Ok.ensures.parts
-      (c.in_ok-new-in-Ok.ensures.run opened c.in-Ok.ensures.quiet c.in-Ok.ensures.laid.2) c.in-Ok.ensures.laid.1
+    (c.in_ok-new-in-Ok.ensures.run opened c.in-Ok.ensures.quiet c.in-Ok.ensures.laid.2) c.in-Ok.ensures.laid.1

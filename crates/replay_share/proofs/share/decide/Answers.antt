@@ -12,15 +12,19 @@ returns-in-Told g c = λ lines decisions room all fits before.
     let u = c.loop.invariant lines decisions room all fits before in
     let d = decides_so u.turn c.in-Told.decision (sym c.in-Told.is ∙ u.says) in
     is_decided c.args.config.now c.requires.config c.args.line.now c.requires.line lines all decisions (state_of c.args.script.now) (g.A.Answers.serves c.args.zones.now c.args.config.now.zones room) before
-      (g.A.Answers.serves c.loop.zones c.args.config.now.zones room) (state_of c.loop.script) c.loop.next c.loop.counter c.in-Told.decision d.0 u d.1
+    (g.A.Answers.serves c.loop.zones c.args.config.now.zones room) (state_of c.loop.script) c.loop.next c.loop.counter c.in-Told.decision d.0 u d.1
 
 pub ask-reply-requires : goal.ask-reply-requires
 ask-reply-requires g c =
     let b = c.requires.before in
     let u = c.loop.invariant b.0 b.1 b.2 b.3 b.4 b.5 in
-    let a = asks_call u.turn c.in-Ask.call (sym c.in-Ask.is ∙ u.says) in
-    (c.args.config.now.zones, b.2, b.5.asked ++ u.since, u.served,
-      can_ask c.args.config.now c.requires.config c.args.line.now c.requires.line b.0 b.3 b.1 (state_of c.args.script.now) (g.A.Answers.serves c.args.zones.now c.args.config.now.zones b.2) b.5 b.2 u.since u.turn c.in-Ask.call a.0 b.4 u.leads a.1)
+    let a = asks_call u.turn c.in-Ask.call (sym c.in-Ask.is ∙ u.says) in (
+      c.args.config.now.zones,
+      b.2,
+      b.5.asked ++ u.since,
+      u.served,
+      can_ask c.args.config.now c.requires.config c.args.line.now c.requires.line b.0 b.3 b.1 (state_of c.args.script.now) (g.A.Answers.serves c.args.zones.now c.args.config.now.zones b.2) b.5 b.2 u.since u.turn c.in-Ask.call a.0 b.4 u.leads a.1,
+    )
 
 pub answer-requires-clause-under_way : goal.answer-requires-clause-under_way
 answer-requires-clause-under_way g c =
@@ -29,7 +33,7 @@ answer-requires-clause-under_way g c =
     let a = asks_call u.turn c.in-Ask.call (sym c.in-Ask.is ∙ u.says) in
     let S = g.A.Answers.serves c.args.zones.now c.args.config.now.zones b.2 in
     may_answer c.args.config.now c.requires.config c.args.line.now c.requires.line b.0 b.3 b.1 (state_of c.args.script.now) S b.5 (state_of c.loop.script).stage a.0
-      (waiting c.args.config.now c.requires.config c.args.line.now c.requires.line b.0 b.3 b.1 (state_of c.args.script.now) S b.5 (state_of c.loop.script) u.turn c.in-Ask.call a.0 u.state a.1)
+    (waiting c.args.config.now c.requires.config c.args.line.now c.requires.line b.0 b.3 b.1 (state_of c.args.script.now) S b.5 (state_of c.loop.script) u.turn c.in-Ask.call a.0 u.state a.1)
 
 pub loop-preserved : goal.loop-preserved
 loop-preserved g c = λ lines decisions room all fits before.
@@ -40,8 +44,8 @@ loop-preserved g c = λ lines decisions room all fits before.
     let served = c.ask-reply.ensures.served c.args.config.now.zones room (before.asked ++ u.since) u.served can in
     let waits_so = waiting c.args.config.now c.requires.config c.args.line.now c.requires.line lines all decisions (state_of c.args.script.now) S before (state_of c.loop.script) u.turn c.in-Ask.call a.0 u.state a.1 in
     goes_on c.args.config.now c.requires.config c.args.line.now c.requires.line lines all decisions (state_of c.args.script.now) S before
-      (g.A.Answers.serves c.loop.zones c.args.config.now.zones room) (g.A.Answers.serves c.ask-reply.new.self c.args.config.now.zones room) (state_of c.loop.script) (state_of c.answer.new.self) c.loop.next c.in_ok-next-in-Ask.next c.loop.counter c.in-Ask.call c.ask-reply.result a.0 u a.1
-      (c.in_ok-next-in-Ask.ensures.value c.args.line.now.conn a.0 waits_so) served
+    (g.A.Answers.serves c.loop.zones c.args.config.now.zones room) (g.A.Answers.serves c.ask-reply.new.self c.args.config.now.zones room) (state_of c.loop.script) (state_of c.answer.new.self) c.loop.next c.in_ok-next-in-Ask.next c.loop.counter c.in-Ask.call c.ask-reply.result a.0 u a.1
+    (c.in_ok-next-in-Ask.ensures.value c.args.line.now.conn a.0 waits_so) served
 
 pub unreachable-requires : goal.unreachable-requires
 unreachable-requires g c =
@@ -56,4 +60,4 @@ returns g c = λ lines decisions room all fits before.
     let u = c.loop.invariant lines decisions room all fits before in
     let d = decides_so u.turn c.in-Told-next.decision (sym c.in-Told-next.is ∙ u.says) in
     is_decided c.args.config.now c.requires.config c.args.line.now c.requires.line lines all decisions (state_of c.args.script.now) (g.A.Answers.serves c.args.zones.now c.args.config.now.zones room) before
-      (g.A.Answers.serves c.loop.zones c.args.config.now.zones room) (state_of c.loop.script) c.loop.next c.loop.counter c.in-Told-next.decision d.0 u d.1
+    (g.A.Answers.serves c.loop.zones c.args.config.now.zones room) (state_of c.loop.script) c.loop.next c.loop.counter c.in-Told-next.decision d.0 u d.1

@@ -8,7 +8,7 @@ use Rattle.zonereplay.proofs.prepare.run_check.Goals as goal
 
 pub returns-in-Ok : goal.returns-in-Ok
 returns-in-Ok c = λ files. config_prepares c.args.text.now files files (λ (config : Config). writes (exactly (check_text config))) c.in_ok-config.config _ c.in_ok-config.ensures
-  (record {
-    files = record { kept = λ name. refl; later = λ name. omega arith };
-    gives = (record { told = exactly (check_text c.in_ok-config.config); ends = refl; shown = c.in-Ok.ensures }, λ name. refl);
-  })
+    (record {
+      files = record { kept = λ name. refl; later = λ name. omega arith };
+      gives = (record { told = exactly (check_text c.in_ok-config.config); ends = refl; shown = c.in-Ok.ensures }, λ name. refl);
+    })

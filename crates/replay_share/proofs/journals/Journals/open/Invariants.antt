@@ -6,5 +6,5 @@ use Rattle.replay_share.proofs.journals.Journals.open.Given as goal
 abbrev pub invariant-loop-zone : goal.invariant-loop-zone
 invariant-loop-zone l = record {
   fresh : AreFresh l.room (take l.zone-index l.zones) l.journals.items;
-  rest : refused_line l.zones ≡ refused_line (drop l.zone-index l.zones)
+  rest : refused_line l.zones ≡ refused_line (drop l.zone-index l.zones);
 }

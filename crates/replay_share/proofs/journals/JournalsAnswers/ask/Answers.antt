@@ -14,4 +14,4 @@ returns-clause-served c = λ zones room asked serves can.
     let f = finds c.args.self.now zones room asked c.args.call serves can in
     let taken = can_at c.self.inside.journals.items c.args.self.now c.zone_of-zone.result c.index_mut.result.now zones room asked c.args.call f c.self.view_is c.zone_of-zone.ensures c.index_mut.ensures.value in
     at_set c.self.inside.journals.items c.args.self.now c.zone_of-zone.result (zone_of c.args.call) c.ask.new.self zones room (asked ++ record { call = c.args.call; reply = c.ask.result } ∷ []) c.self.view_is c.zone_of-zone.ensures
-      (serves-after c.args.self.now zones room asked c.args.call c.ask.result c.ask.new.self serves f (c.ask.ensures.taken f.spec room asked taken) c.ask.ensures.kind can.there)
+    (serves-after c.args.self.now zones room asked c.args.call c.ask.result c.ask.new.self serves f (c.ask.ensures.taken f.spec room asked taken) c.ask.ensures.kind can.there)
