@@ -3,3 +3,4 @@ pub mod StopLemmas
 pub mod AnswerLemmas
 pub mod OneLemmas
 pub mod WordLemmas
+pub mod PlainLemmas

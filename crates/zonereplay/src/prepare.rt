@@ -115,7 +115,10 @@ pub(crate) fn open_config(alloc: Global, text: &[u8]) -> Result<Config, Stop>
 fn run_check(alloc: Global, text: &[u8]) -> Result<Text, Stop>
     ensures { (files : Files) → Prepares (check_run text.now) files files result }
 {
-    let config = open_config(alloc, text)?;
+    let config = match open_config(alloc, text) {
+        Ok(config) => config,
+        Err(stop) => return Err(stop),
+    };
     match check_text(alloc, &config) {
         Ok(written) => Ok(written),
         Err(_) => Err(Stop::NoMemory),

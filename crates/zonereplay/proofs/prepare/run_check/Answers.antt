@@ -6,9 +6,12 @@ use Rattle.zonereplay.specs.Told.Told.{exactly}
 use Rattle.zonereplay.proofs.StopLemmas.{config_prepares, config_stopped}
 use Rattle.zonereplay.proofs.prepare.run_check.Goals as goal
 
-pub returns-in-Ok : goal.returns-in-Ok
-returns-in-Ok c = λ files. config_prepares c.args.text.now files files (λ (config : Config). writes (exactly (check_text config))) c.in_ok-config.config _ c.in_ok-config.ensures
+pub returns-in-Ok-check_text : goal.returns-in-Ok-check_text
+returns-in-Ok-check_text c = λ files. config_prepares c.args.text.now files files (λ (config : Config). writes (exactly (check_text config))) c.in-Ok.config _ c.in-Ok.ensures
     (record {
       files = record { kept = λ name. refl; later = λ name. omega arith };
-      gives = (record { told = exactly (check_text c.in_ok-config.config); ends = refl; shown = c.in-Ok.ensures }, λ name. refl);
+      gives = (record { told = exactly (check_text c.in-Ok.config); ends = refl; shown = c.in-Ok-check_text.ensures }, λ name. refl);
     })
+
+pub returns-in-Err : goal.returns-in-Err
+returns-in-Err c = λ files. config_stopped c.args.text.now files (λ (config : Config). writes (exactly (check_text config))) c.in-Err.stop c.in-Err.ensures
