@@ -1,3 +1,4 @@
-mod Walks
+pub mod Walks
 mod Steps
 pub mod Fits
+pub mod Around

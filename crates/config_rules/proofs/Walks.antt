@@ -43,7 +43,7 @@ inside_of (Some c) block sources s e =
     let is : same ≡ s = cc in
     ap (λ (t : Scope). places_from t [] t.block) is
 
-inside_scope : (scope : Scope) (d : Directive) (s : Scope) → scope_within scope d ≡ Some s → inside (scope_within scope d) (map walked (inner_of d)) ≡ places_from s [] s.block
+pub inside_scope : (scope : Scope) (d : Directive) (s : Scope) → scope_within scope d ≡ Some s → inside (scope_within scope d) (map walked (inner_of d)) ≡ places_from s [] s.block
 inside_scope scope d s e = inside_of (context_within (kind_in scope d) (has_block d)) (inner_of d) (inherited (inner_of d) scope.sources) s e
 
 -- the innermost block stands last

@@ -8,3 +8,7 @@ pub mod RecordLemmas
 pub mod RoundLemmas
 pub mod ChangeLemmas
 pub mod ZoneLemmas
+pub mod FreshLemmas
+pub mod GrantLemmas
+pub mod RootLemmas
+pub mod OpenedLemmas

@@ -127,7 +127,7 @@ word-single false = refl
 zeros-kept : (m n : Words) (at from : ℕ) → n at ≡ m at → HasZeros m at from → HasZeros n at from
 zeros-kept m n at from e h i low high = ap (λ ws. get_or ws i 0) e ∙ h i low high
 
-list-kept : (m n : Words) (at first servers : ℕ) (single : Bool) → n at ≡ m at → HoldsList m at first servers single → HoldsList n at first servers single
+pub list-kept : (m n : Words) (at first servers : ℕ) (single : Bool) → n at ≡ m at → HoldsList m at first servers single → HoldsList n at first servers single
 list-kept m n at first servers single e h =
     let same : (i : ℕ) → word_at n at i ≡ word_at m at i = λ i. ap (λ ws. get_or ws i 0) e in
     record {
@@ -138,7 +138,7 @@ list-kept m n at first servers single e h =
       zeros = zeros-kept m n at 3 e h.zeros;
     }
 
-context-kept : (m n : Words) (at primary backup : ℕ) (method : Method) → n at ≡ m at → HoldsContext m at primary backup method → HoldsContext n at primary backup method
+pub context-kept : (m n : Words) (at primary backup : ℕ) (method : Method) → n at ≡ m at → HoldsContext m at primary backup method → HoldsContext n at primary backup method
 context-kept m n at primary backup method e h =
     let same : (i : ℕ) → word_at n at i ≡ word_at m at i = λ i. ap (λ ws. get_or ws i 0) e in
     record {
@@ -149,7 +149,7 @@ context-kept m n at primary backup method e h =
       zeros = zeros-kept m n at 3 e h.zeros;
     }
 
-backup-kept : (m n : Words) (ps : List PeerRecord) (behind : List ℕ) → ((z : ℕ) → In z behind → n z ≡ m z) → LaysBackup m ps behind → LaysBackup n ps behind
+pub backup-kept : (m n : Words) (ps : List PeerRecord) (behind : List ℕ) → ((z : ℕ) → In z behind → n z ≡ m z) → LaysBackup m ps behind → LaysBackup n ps behind
 backup-kept m n [] [] same laid = laid
 backup-kept m n [] (b ∷ bs) same laid = laid
 backup-kept m n (p ∷ ps) [] same laid = laid

@@ -15,3 +15,5 @@ pub mod Steps
 pub mod Layout
 pub mod Lays
 pub mod WordsLaws
+pub mod Placing
+pub mod Faults

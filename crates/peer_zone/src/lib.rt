@@ -1,11 +1,14 @@
 //! The zone of an upstream's servers: which of them takes the next request, and what its end tells of it. It has the
-//! rules, their law, and the calls of a zone in words; nothing opens such a zone yet.
+//! rules, their law, and the zone in words, its opening and its calls.
 #![tactic(auto)]
 
 mod calls;
 mod choosing;
+mod errors;
+mod fresh;
 mod numbers;
 mod object;
+mod opening;
 mod records;
 mod rounds;
 mod state;
@@ -15,6 +18,10 @@ mod words;
 mod writing;
 
 pub use calls::{Method, PeerCall, PeerReply, PeerSpec, Server};
+pub use errors::OpenFault;
 pub use object::PeerZone;
 pub use state::{PeerRecord, PeerState};
 pub use words::PeerWords;
+
+#[cfg(test)]
+mod tests;

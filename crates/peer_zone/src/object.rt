@@ -1,7 +1,20 @@
-use crate::calls::{PeerCall, PeerReply};
+ghost use Rattle.std.specs.Prelude.{◌≡◌, ◌<◌, ◌≤◌, length, IfOk, MatchResult, None};
+ghost use Rattle.std.specs.List.{All};
+ghost use Rattle.slab_model.specs.Geometry.{greatest_zone};
+ghost use Rattle.peer_zone.specs.Object.{IsServer};
+ghost use Rattle.peer_zone.specs.Opening.{IsOpened, opened_zone, refused_server};
+ghost use Rattle.peer_zone.specs.Lays.{Lays};
+ghost use Rattle.peer_zone.specs.Faults.{HasPages, IsFaultOf};
+
+use crate::calls::{PeerCall, PeerReply, PeerSpec};
+use crate::errors::OpenFault;
+use crate::opening::{begin, text_of};
 use crate::state::PeerState;
 use crate::words::PeerWords;
 use slab_model::Stat;
+use slab_pages::Geometry;
+use slab_pool::Pool;
+use std::alloc::Global;
 use std::marker::Model;
 use std::sync::ledger::Ledger;
 use zone_object::{ZoneObject, ZoneView};
@@ -28,6 +41,44 @@ impl Model for PeerZone {
     ghost view = { λ z. z.words };
 
     ghost invariant = { λ z. ((s : PeerState) × Lays z.words s) };
+}
+
+impl PeerZone {
+    /// Opens a zone whose servers have had no request. `TooSmall` comes exactly where it has fewer bytes than 8 pages, and
+    /// `Small` exactly where the pool has no block for the record of a server: it tells the first such one.
+    pub fn open(alloc: Global, spec: PeerSpec) -> Result<PeerZone, OpenFault>
+        requires name { (0 < length spec.name) × (length spec.name < 256) }
+        requires bytes { spec.bytes ≤ greatest_zone }
+        requires page_shift { spec.page_shift ≡ 12 }
+        requires some { 0 < length spec.primary }
+        requires primary { All IsServer spec.primary }
+        requires primary_few { length spec.primary ≤ 64 }
+        requires backup { All IsServer spec.backup }
+        requires backup_few { length spec.backup ≤ 64 }
+        ensures laid { MatchResult result
+            (λ zone. HasPages spec × (refused_server spec ≡ None) × Lays zone (opened_zone spec))
+            (IsFaultOf spec) }
+        ensures quiet { IfOk result (λ _. IsOpened (opened_zone spec)) }
+    {
+        let Ok(geometry) = Geometry::of(spec.bytes, spec.page_shift) else {
+            return Err(OpenFault::TooSmall);
+        };
+        let text = text_of(alloc, spec.name.bytes())?;
+        let mut pool = Pool::open(alloc, geometry)?;
+        let entries = (spec.primary.len() + spec.backup.len()) as u64;
+        match begin(&mut pool, &spec, &text) {
+            Err(server) => Err(OpenFault::Small { server }),
+            Ok(placed) => Ok(PeerZone {
+                words: PeerWords {
+                    pool,
+                    spec,
+                    primary: placed.list.at,
+                    backup: placed.backup,
+                    entries,
+                },
+            }),
+        }
+    }
 }
 
 impl ZoneObject for PeerZone {

@@ -1,5 +1,7 @@
 -- What a share may ask of a zone, after what it asked of that zone and was answered: what the zones permit their callers.
-use Rattle.std.specs.Prelude.{ℕ, ◌<◌, nat_eq, List, sum_by, count_by, Bool}
+use Rattle.std.specs.Prelude.{ℕ, ◌<◌, nat_eq, List, Option, sum_by, count_by, Bool}
+use Rattle.zone_config.specs.declared.data.ZoneSpec.{ZoneSpec}
+use Rattle.zone_config.specs.Conditions.{IsReqZone, IsConnZone, IsSomePeerZone}
 use Rattle.req_zone.specs.declared.calls.ReqCall.{ReqCall}
 use Rattle.req_zone.specs.declared.calls.ReqCall.TheVariants.{Check, Account, Release}
 use Rattle.req_zone.specs.declared.calls.ReqReply.{ReqReply}
@@ -49,6 +51,18 @@ abbrev pub MayAsk : List Exchange → ZoneCall → Type 0
 MayAsk past (to.Req zone call) = ReqPermits (req_part zone past) call
 MayAsk past (to.Conn zone call) = ConnPermits (conn_part zone past) call
 MayAsk past (to.Peer zone call) = PeerPermits (peer_part zone past) call
+
+-- the number of the zone that a call goes to
+abbrev pub zone_of : ZoneCall → ℕ
+zone_of (to.Req zone call) = zone
+zone_of (to.Conn zone call) = zone
+zone_of (to.Peer zone call) = zone
+
+-- a zone is there, and of a call's kind
+abbrev pub IsOfKind : Option ZoneSpec → ZoneCall → Type 0
+IsOfKind spec (to.Req zone call) = IsReqZone spec
+IsOfKind spec (to.Conn zone call) = IsConnZone spec
+IsOfKind spec (to.Peer zone call) = IsSomePeerZone spec
 
 -- whether a call goes to zone z
 abbrev pub is_to : ℕ → ZoneCall → Bool

@@ -1,7 +1,6 @@
 -- The zones and the locations of places that break no rule are few, in their limits, and have names of their own.
-use Rattle.std.proofs.Common.{◌≡◌, ℕ, ◌+◌, ◌<◌, ◌≤◌, Bool, true, false, List, [], ◌∷◌, ◌++◌, Option, None, Some, length, refl, sym, ◌∙◌, ap, subst, arith}
+use Rattle.std.proofs.Common.{◌≡◌, ℕ, ◌+◌, ◌<◌, ◌≤◌, Bool, true, false, List, [], ◌∷◌, Option, None, Some, length, refl, sym, ◌∙◌, ap, subst, arith}
 use Rattle.std.specs.Prelude.{◌||◌}
-use Rattle.std.specs.Option.{option_map}
 use Rattle.std.specs.List.{All, list_any, filter_map, cons_option, sum_by}
 use Rattle.std.proofs.lemmas.Bool.{leb-false}
 use Rattle.std.proofs.lemmas.List.Elements.{All-nil, All-cons}
@@ -15,25 +14,17 @@ use Rattle.config_rules.specs.declared.earlier.ZoneNames.{ZoneNames}
 use Rattle.config_rules.specs.Words.{arguments_of, behind_first, has_block, line_of}
 use Rattle.config_rules.specs.Arguments.{meanings, declared_name, declared_size}
 use Rattle.config_rules.specs.Places.{Place, kind_at}
-use Rattle.config_rules.specs.Rules.{Seen, Fault, rules, first_broken, first_fault, fault_at, seen_at, noted, nothing, arguments_at, and_then_one, bytes_or_none, first_said, declares_one_of, has_repeats, is_again, limits_again, name_if_location}
+use Rattle.config_rules.specs.Rules.{Seen, rules, first_broken, first_fault, fault_at, seen_at, noted, nothing, arguments_at, and_then_one, bytes_or_none, first_said, declares_one_of, has_repeats, is_again, limits_again, name_if_location}
 use Rattle.config_rules.proofs.Fits.{zone_fits}
 use Rattle.zone_config.specs.declared.data.ZoneSpec.{ZoneSpec}
 use Rattle.zone_config.specs.declared.data.Upstream.{Upstream}
 use Rattle.zone_config.specs.declared.data.Level.{Level}
 use Rattle.zone_config.specs.Configuration.{req_zone, conn_zone, peer_zone, zone_at, zone_name, level_of, location_at}
 use Rattle.zone_config.specs.Conditions.{IsZone, IsZoneSpec, AreZones, AreLocations, zone_bytes}
-use Rattle.zone_config.proofs.Keeps.{Keeps, keeps}
+use Rattle.zone_config.proofs.Keeps.{Keeps, keeps_at, no_rule, seen_as}
 use Rattle.zone_config.proofs.Declaring.{Declares, ReqWords, SizeFits, first_tested, named, sized, conn_declares, peer_declares, req_declares, req_key, conn_key}
 use Rattle.zone_config.proofs.Steps.{no_fault}
 use Rattle.zone_config.proofs.Behind.{Behind, behind_none, behind_more, behind_one}
-
--- what is seen at a place, as if its directive were of this kind
-abbrev seen_as : ZoneNames → Earlier → Place → Kind → Seen
-seen_as text e p k = record { text = text; earlier = e; kind = k; arguments = meanings k (arguments_of p.directive); place = p }
-
-no_rule : (line : ℕ) (rule : Option ℕ) → (let fault : ℕ → Fault = λ r. record { line = line; rule = r } in option_map fault rule ≡ None) → rule ≡ None
-no_rule line None e = refl
-no_rule line (Some r) e = absurd (cc)
 
 -- a zone, behind what stands before it
 record ZoneKept (e : Earlier) (args : List Argument) (zone : ZoneSpec) : Type 0 where
@@ -67,7 +58,7 @@ facts s zone k d =
     }
 
 -- no parameter twice
-middle : (a b c : Bool) → (a || b || c) ≡ false → b ≡ false
+pub middle : (a b c : Bool) → (a || b || c) ≡ false → b ≡ false
 middle true b c e = absurd (cc)
 middle false true c e = absurd (cc)
 middle false false c e = refl
@@ -134,10 +125,6 @@ zone_kept text e p PeerZone zone is here held =
     let same : peer_zone (arguments_of p.directive) (line_of p.directive) p.scope.block ≡ zone = (let u = rw (is, zone_at) at here in cc) in
     subst (ZoneKept e (meanings PeerZone (arguments_of p.directive))) same (peer_kept text e p held)
 zone_kept text e p _ zone is here held = absurd (let u = rw (is, zone_at) at here in cc)
-
--- what a place that breaks no rule keeps
-keeps_at : (text : ZoneNames) (e : Earlier) (p : Place) → fault_at text e p ≡ None → Keeps (seen_as text e p (kind_at p))
-keeps_at text e p sound = keeps (seen_as text e p (kind_at p)) (no_rule (line_of p.directive) (first_broken rules (seen_as text e p (kind_at p))) sound)
 
 noted_fits : (text : ZoneNames) (e : Earlier) (p : Place) → e.zone_bytes ≤ 268435456 → fault_at text e p ≡ None → (noted e p).zone_bytes ≤ 268435456
 noted_fits text e p fits sound = zone_fits (seen_at text e p) fits (no_rule (line_of p.directive) (first_broken rules (seen_at text e p)) sound)

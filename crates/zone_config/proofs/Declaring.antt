@@ -1,10 +1,10 @@
 -- What the directive of a zone that breaks no rule declares.
 use Rattle.std.proofs.Common.{◌≡◌, ℕ, ◌+◌, ◌*◌, ◌/◌, ◌-◌, ◌≤◌, Bool, true, false, cond, eqb, List, [], ◌∷◌, ◌++◌, Option, None, Some, unwrap_or, is_some, length, map, take, drop, refl, sym, ◌∙◌, ap, subst, arith, take-append-drop, leb-true}
-use Rattle.std.specs.Prelude.{◌&&◌, ◌||◌, not, codes, is_none, nat_eq, nat_le}
+use Rattle.std.specs.Prelude.{◌&&◌, not, codes, is_none, nat_eq, nat_le}
 use Rattle.std.specs.Option.{option_map, option_map_or, option_and_then}
-use Rattle.std.specs.List.{list_any, find, starts_with, ends_with}
+use Rattle.std.specs.List.{filter_map, list_any, find, starts_with, ends_with}
 use Rattle.std.specs.Str.Parse.{digits_value}
-use Rattle.std.specs.Cmp.Lexicographic.{pointwise, bytes_decides}
+use Rattle.std.specs.Cmp.Lexicographic.{bytes_decides}
 use Rattle.std.proofs.lemmas.Bool.Decides.{nat_tests}
 use Rattle.zone_key.specs.Expr.{expr_of}
 use Rattle.zone_key.specs.Printing.{IsExpr}
@@ -13,11 +13,11 @@ use Rattle.zone_key.proofs.Spelled.{spelled-is-expr}
 use Rattle.directive_text.specs.declared.tree.Directive.{Directive}
 use Rattle.config_rules.specs.declared.kind.Kind.TheVariants.{ReqZone, ConnZone, PeerZone}
 use Rattle.config_rules.specs.declared.argument.Argument.{Argument}
-use Rattle.config_rules.specs.declared.argument.Argument.TheVariants.{Zone, Name, Rate}
+use Rattle.config_rules.specs.declared.argument.Argument.TheVariants.{Zone, Name}
 use Rattle.config_rules.specs.Words.{Declared, declared_in, declared_by, value_of, parameter, parameter_name, behind_first, first_of}
 use Rattle.config_rules.specs.Numbers.{size_of, up_to, number_in, is_digits, at_least, rate_of}
 use Rattle.config_rules.specs.Arguments.{meanings, later_argument, declared_name, declared_size}
-use Rattle.config_rules.specs.Rules.{first_said, bytes_or_none, has_bad_size, has_size, is_small, is_large, has_bad_rate, is_name, is_out_of_range, is_unknown, is_formed, is_bad_key, has_repeats, is_repeated}
+use Rattle.config_rules.specs.Rules.{first_said, bytes_or_none, has_bad_size, has_size, is_small, is_large, has_bad_rate, is_name, is_out_of_range, is_unknown, is_formed, is_bad_key, has_repeats}
 use Rattle.config_rules.proofs.Fits.{and_true, or_false, said_first}
 use Rattle.zone_config.specs.declared.data.ZoneSpec.{ZoneSpec}
 use Rattle.zone_config.specs.Configuration.{declared_or_none, req_zone, conn_zone, peer_zone, zone_name}
@@ -40,7 +40,7 @@ first_tested sort test P each (a ∷ args) v is e =
     first_at sort test P each a args v (sort a) refl is both.0 (λ later. first_tested sort test P each args v later both.1)
 
 -- a zone's name has 1 to 255 bytes
-name_within : (name : List ℕ) → not (is_name name) ≡ false → IsWithin 1 255 (length name)
+pub name_within : (name : List ℕ) → not (is_name name) ≡ false → IsWithin 1 255 (length name)
 name_within name e = (grind (arith, nat_tests), grind (arith, nat_tests))
 
 name_ranged : (a : Argument) (v : List ℕ) → declared_name a ≡ Some v → is_out_of_range a ≡ false → IsWithin 1 255 (length v)
@@ -77,14 +77,15 @@ sized earlier args size is bad small large =
     (first_tested declared_size (has_size is_small) (λ v. option_map_or is_small (size_of v) false ≡ false) (small_size is_small) args size is small)
     (first_tested declared_size (has_size (is_large earlier)) (λ v. option_map_or (is_large earlier) (size_of v) false ≡ false) (small_size (is_large earlier)) args size is large)
 
--- what arguments declare is the zone
+-- what arguments declare is the zone, and no other
 pub record Declares (args : List Argument) (zone : ZoneSpec) : Type 0 where
   pub name : first_said declared_name args ≡ Some (zone_name zone)
+  pub only : filter_map declared_name args ≡ zone_name zone ∷ []
   pub size : List ℕ
   pub said : first_said declared_size args ≡ Some size
   pub bytes : bytes_or_none (Some size) ≡ zone_bytes zone
 
-counted : (n m : ℕ) (b : Bool) → not (eqb n m && b) ≡ false → n ≡ m
+pub counted : (n m : ℕ) (b : Bool) → not (eqb n m && b) ≡ false → n ≡ m
 counted n m b e = grind (arith, nat_tests)
 
 -- the first word that declares a zone, that one or a later one
@@ -97,10 +98,10 @@ declared_next w ws d is rest = ap (λ b. option_and_then declared_in (cond b (So
 declared_is : (ws : List (List ℕ)) (d : Declared) → declared_by ws ≡ Some d → declared_or_none ws ≡ d
 declared_is ws d is = rw is refl
 
-parameter_first : (prefix w v : List ℕ) (ws : List (List ℕ)) → value_of prefix w ≡ Some v → parameter prefix (w ∷ ws) ≡ Some v
+pub parameter_first : (prefix w v : List ℕ) (ws : List (List ℕ)) → value_of prefix w ≡ Some v → parameter prefix (w ∷ ws) ≡ Some v
 parameter_first prefix w v ws is = ap (λ b. option_and_then (value_of prefix) (cond b (Some w) (find (λ x. is_some (value_of prefix x)) ws))) (ap is_some is) ∙ is
 
-parameter_next : (prefix w v : List ℕ) (ws : List (List ℕ)) → value_of prefix w ≡ None → parameter prefix ws ≡ Some v → parameter prefix (w ∷ ws) ≡ Some v
+pub parameter_next : (prefix w v : List ℕ) (ws : List (List ℕ)) → value_of prefix w ≡ None → parameter prefix ws ≡ Some v → parameter prefix (w ∷ ws) ≡ Some v
 parameter_next prefix w v ws is rest = ap (λ b. option_and_then (value_of prefix) (cond b (Some w) (find (λ x. is_some (value_of prefix x)) ws))) (ap is_some is) ∙ rest
 
 conn_found : (k z : List ℕ) (found : Option Declared) → declared_in z ≡ found → list_any is_unknown (meanings ConnZone (k ∷ z ∷ [])) ≡ false → Declares (meanings ConnZone (k ∷ z ∷ [])) (conn_zone (k ∷ z ∷ []))
@@ -108,8 +109,10 @@ conn_found k z None is e = absurd (let u = rw is at e in cc)
 conn_found k z (Some d) is e =
     let same : declared_or_none (z ∷ []) ≡ d = declared_is (z ∷ []) d (declared_first z [] d is) in
     let first : first_said declared_name (meanings ConnZone (k ∷ z ∷ [])) ≡ Some d.name = rw is refl in
+    let all : filter_map declared_name (meanings ConnZone (k ∷ z ∷ [])) ≡ d.name ∷ [] = rw is refl in
     record {
       name = first ∙ ap (λ (x : Declared). Some x.name) (sym same);
+      only = all ∙ ap (λ (x : Declared). x.name ∷ []) (sym same);
       size = d.size;
       said = rw is refl;
       bytes = ap (λ (x : Declared). bytes_or_none (Some x.size)) (sym same);
@@ -124,7 +127,7 @@ conn_declares (k ∷ z ∷ y ∷ ws) b f e = let n : length (k ∷ z ∷ y ∷ w
 pub peer_declares : (words : List (List ℕ)) (b : Bool) (line : ℕ) (block : List Directive) → not (is_formed PeerZone (length words) b) ≡ false → Declares (meanings PeerZone words) (peer_zone words line block)
 peer_declares [] b line block f = absurd (cc)
 peer_declares (n ∷ []) b line block f = absurd (cc)
-peer_declares (n ∷ s ∷ []) b line block f = record { name = refl; size = s; said = refl; bytes = refl }
+peer_declares (n ∷ s ∷ []) b line block f = record { name = refl; only = refl; size = s; said = refl; bytes = refl }
 peer_declares (n ∷ s ∷ y ∷ ws) b line block f = let l : length (n ∷ s ∷ y ∷ ws) ≡ 2 = counted (length (n ∷ s ∷ y ∷ ws)) 2 (not b) f in absurd (omega arith)
 
 -- a word that has a value behind a prefix begins with it
@@ -135,7 +138,7 @@ front_of prefix w v true is e =
     let front : prefix ≡ take (length prefix) w = (bytes_decides prefix (take (length prefix) w)).0 is in
     sym (take-append-drop (length prefix) w) ∙ ap (λ p. p ++ drop (length prefix) w) (sym front) ∙ ap (λ r. prefix ++ r) rest
 
-valued_front : (prefix w v : List ℕ) → value_of prefix w ≡ Some v → w ≡ prefix ++ v
+pub valued_front : (prefix w v : List ℕ) → value_of prefix w ≡ Some v → w ≡ prefix ++ v
 valued_front prefix w v e = front_of prefix w v (starts_with nat_eq w prefix) refl e
 
 zone_front : (w : List ℕ) (d : Declared) (v : Option (List ℕ)) → value_of (codes "zone=") w ≡ v → declared_in w ≡ Some d → parameter_name w ≡ codes "zone"
@@ -158,7 +161,7 @@ rate_twice : (a b : List ℕ) → parameter_name a ≡ codes "rate" → paramete
 rate_twice a b pa pb e = let u = rw (pa, pb) at e in cc
 
 -- the range of a number
-passed_test : (b : Bool) (x y : ℕ) → cond b (Some x) None ≡ Some y → (b ≡ true) × (x ≡ y)
+pub passed_test : (b : Bool) (x y : ℕ) → cond b (Some x) None ≡ Some y → (b ≡ true) × (x ≡ y)
 passed_test true x y e = (refl, let same : x ≡ y = cc in same)
 passed_test false x y e = absurd (cc)
 
@@ -208,9 +211,11 @@ req_found k a b (Some d) None ra (Some v) isa isb isra isrb known once rated =
     let good = rw (isa, isb, isrb) at rated in
     let same : declared_or_none (a ∷ b ∷ []) ≡ d = declared_is (a ∷ b ∷ []) d (declared_first a (b ∷ []) d isa) in
     let first : first_said declared_name (meanings ReqZone (k ∷ a ∷ b ∷ [])) ≡ Some d.name = rw isa refl in
+    let all : filter_map declared_name (meanings ReqZone (k ∷ a ∷ b ∷ [])) ≡ d.name ∷ [] = rw (isa, isb, isrb) refl in
     record {
       declares = record {
         name = first ∙ ap (λ (x : Declared). Some x.name) (sym same);
+        only = all ∙ ap (λ (x : Declared). x.name ∷ []) (sym same);
         size = d.size;
         said = rw isa refl;
         bytes = ap (λ (x : Declared). bytes_or_none (Some x.size)) (sym same);
@@ -224,9 +229,11 @@ req_found k a b None (Some d) (Some v) rb isa isb isra isrb known once rated =
     let good = rw (isa, isb, isra) at rated in
     let same : declared_or_none (a ∷ b ∷ []) ≡ d = declared_is (a ∷ b ∷ []) d (declared_next a (b ∷ []) d isa (declared_first b [] d isb)) in
     let first : first_said declared_name (meanings ReqZone (k ∷ a ∷ b ∷ [])) ≡ Some d.name = rw (isa, isra, isb) refl in
+    let all : filter_map declared_name (meanings ReqZone (k ∷ a ∷ b ∷ [])) ≡ d.name ∷ [] = rw (isa, isra, isb) refl in
     record {
       declares = record {
         name = first ∙ ap (λ (x : Declared). Some x.name) (sym same);
+        only = all ∙ ap (λ (x : Declared). x.name ∷ []) (sym same);
         size = d.size;
         said = rw (isa, isra, isb) refl;
         bytes = ap (λ (x : Declared). bytes_or_none (Some x.size)) (sym same);

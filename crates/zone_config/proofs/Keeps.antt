@@ -1,12 +1,19 @@
 -- What a place that breaks no rule keeps, rule by rule.
-use Rattle.std.proofs.Common.{◌≡◌, false, None, refl, length}
+use Rattle.std.proofs.Common.{◌≡◌, ℕ, false, Option, None, Some, refl, length}
 use Rattle.std.specs.Prelude.{not}
+use Rattle.std.specs.Option.{option_map}
 use Rattle.std.specs.List.{list_any}
-use Rattle.config_rules.specs.Words.{arguments_of, has_block}
-use Rattle.config_rules.specs.Rules.{Seen, rules, first_broken, is_formed, is_unknown, has_bad_size, has_size, is_small, is_large, has_bad_rate, is_out_of_range, names_no_zone, declares_one_of, is_twice, is_too_many, has_taken_name, is_bad_key, lacks_primary}
+use Rattle.config_rules.specs.declared.kind.Kind.{Kind}
+use Rattle.config_rules.specs.declared.earlier.Earlier.{Earlier}
+use Rattle.config_rules.specs.declared.earlier.ZoneNames.{ZoneNames}
+use Rattle.config_rules.specs.Words.{arguments_of, has_block, line_of}
+use Rattle.config_rules.specs.Arguments.{meanings}
+use Rattle.config_rules.specs.Places.{Place, kind_at}
+use Rattle.config_rules.specs.Rules.{Fault, Seen, fault_at, rules, first_broken, misplaced, is_formed, is_unknown, has_bad_size, has_size, is_small, is_large, has_bad_rate, is_out_of_range, names_no_zone, declares_one_of, is_twice, is_too_many, has_taken_name, is_bad_key, lacks_primary}
 use Rattle.config_rules.proofs.Fits.{unbroken}
 
 pub record Keeps (s : Seen) : Type 0 where
+  pub placed : misplaced s.kind ≡ false
   pub formed : not (is_formed s.kind (length (arguments_of s.place.directive)) (has_block s.place.directive)) ≡ false
   pub known : list_any is_unknown s.arguments ≡ false
   pub sized : list_any has_bad_size s.arguments ≡ false
@@ -24,6 +31,7 @@ pub record Keeps (s : Seen) : Type 0 where
 
 pub keeps : (s : Seen) → first_broken rules s ≡ None → Keeps s
 keeps s h = record {
+  placed = unbroken rules 1 s _ h refl;
   formed = unbroken rules 2 s _ h refl;
   known = unbroken rules 3 s _ h refl;
   sized = unbroken rules 4 s _ h refl;
@@ -39,3 +47,15 @@ keeps s h = record {
   keyed = unbroken rules 14 s _ h refl;
   served = unbroken rules 15 s _ h refl;
 }
+
+-- what is seen at a place, as if its directive were of this kind
+abbrev pub seen_as : ZoneNames → Earlier → Place → Kind → Seen
+seen_as text e p k = record { text = text; earlier = e; kind = k; arguments = meanings k (arguments_of p.directive); place = p }
+
+pub no_rule : (line : ℕ) (rule : Option ℕ) → (let fault : ℕ → Fault = λ r. record { line = line; rule = r } in option_map fault rule ≡ None) → rule ≡ None
+no_rule line None e = refl
+no_rule line (Some r) e = absurd (cc)
+
+-- what a place that breaks no rule keeps
+pub keeps_at : (text : ZoneNames) (e : Earlier) (p : Place) → fault_at text e p ≡ None → Keeps (seen_as text e p (kind_at p))
+keeps_at text e p sound = keeps (seen_as text e p (kind_at p)) (no_rule (line_of p.directive) (first_broken rules (seen_as text e p (kind_at p))) sound)

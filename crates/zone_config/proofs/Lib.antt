@@ -3,4 +3,12 @@ mod Keeps
 mod Declaring
 mod Behind
 mod Bounded
+mod Sound
+mod Chosen
+mod Valued
+mod Named
+mod Serving
+mod Limiting
+mod Leveled
+mod Upstreams
 mod Answered

@@ -3,7 +3,7 @@ ghost use Rattle.std.specs.Option.{option_to_list};
 ghost use Rattle.std.specs.List.{filter_map};
 ghost use Rattle.config_rules.specs.Places.{places_of};
 ghost use Rattle.zone_config.specs.Configuration.{Configures, location_at, passed_among, server_among, upstream_at, upstreams_of, zone_at, zones_of};
-ghost use Rattle.zone_config.specs.Conditions.{AreLocations, AreZones};
+ghost use Rattle.zone_config.specs.Conditions.{IsConfig};
 ghost use Rattle.config_rules.specs.Answers.{ReadsFault};
 ghost use Rattle.zone_config.specs.Reading.{GivesConfig, IsWithoutServer};
 ghost use Rattle.config_rules.specs.Views.{place_now};
@@ -183,13 +183,12 @@ fn read_directives(alloc: Global, directives: &[Directive]) -> Result<Config, Co
 /// one, and the least rule that it breaks. `ConfigFault::NoMemory` comes where there is no memory for the
 /// configuration.
 ///
-/// The zones and the locations of a configuration are few, and have names of their own; each zone is in its
-/// limits, and so are the bytes of all together.
+/// The zones and the locations of a configuration are few, and have names of their own. Each zone, upstream and
+/// level is in its limits, and so are the bytes of all zones together; a limit's zone is one of its kind.
 pub fn config_of(alloc: Global, tree: &Tree) -> Result<Config, ConfigFault>
     ensures reads { MatchResult result (λ config. GivesConfig tree.now.directives config)
         (λ fault. ReadsFault tree.now.directives fault) }
-    ensures zones { IfOk result (λ config. AreZones config.zones) }
-    ensures locations { IfOk result (λ config. AreLocations config.locations) }
+    ensures limits { IfOk result IsConfig }
 {
     read_directives(alloc, tree.directives.as_slice())
 }
