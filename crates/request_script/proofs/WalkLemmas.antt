@@ -12,6 +12,7 @@ use Rattle.request_script.specs.declared.active.Opened.{Opened}
 use Rattle.request_script.specs.declared.call.ZoneCall.TheVariants as to
 use Rattle.request_script.specs.declared.progress.Opening.{Opening}
 use Rattle.request_script.specs.declared.progress.Progress.TheVariants as at
+use Rattle.request_script.specs.declared.progress.ReqAsked.TheVariants as kind
 use Rattle.request_script.specs.declared.said.Hold.{Hold}
 use Rattle.request_script.specs.declared.said.ReqSaid.{ReqSaid}
 use Rattle.request_script.specs.Turn.Turn.{asks}
@@ -51,7 +52,7 @@ module _ (config : Config) (o : Opening) (place : ℕ) where
     -- one that is asked
     pub reqs-asked : (d : ReqLimit) → place < length limits → is_skipped 65535 (key_of config o.vars (get_or limits place d).zone) ≡ false
         → asks (to.Req (get_or limits place d).zone (Check (key_of config o.vars (get_or limits place d).zone) o.moment (get_or limits place d).burst (nat_eq (place + 1) (length limits))))
-        (rest config (at.Check o holds (get_or limits place d) (place + 1)))
+        (rest config (at.Reqs o holds (kind.Check (get_or limits place d) (place + 1))))
         ≡ reqs_from config o holds place
     reqs-asked d low asked = rw (drop-there limits _ place d are low, asked, is_last-there limits _ (place + 1) d are (omega arith)) refl
 
