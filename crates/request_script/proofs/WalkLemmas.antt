@@ -1,5 +1,5 @@
 -- Walks along the limits of a level: what the walk from a place on does with the limit that stands there.
-use Rattle.std.proofs.Common.{◌≡◌, ℕ, ◌+◌, ◌<◌, ◌≤◌, Bool, true, false, nat_eq, List, [], ◌∷◌, length, drop, get_or, refl, subst, sym, inl, inr, add-one, arith}
+use Rattle.std.proofs.Common.{◌≡◌, ℕ, ◌+◌, ◌<◌, ◌≤◌, true, false, nat_eq, List, [], ◌∷◌, length, drop, get_or, refl, subst, sym, inl, inr, add-one, arith}
 use Rattle.std.proofs.Math.Seq.{drop-cons, drop-length}
 use Rattle.std.proofs.lemmas.Bool.{eq-eqb, cases_eq, ne_eqb}
 use Rattle.std.proofs.lemmas.List.{drop_all}
@@ -17,8 +17,8 @@ use Rattle.request_script.specs.declared.said.Hold.{Hold}
 use Rattle.request_script.specs.declared.said.ReqSaid.{ReqSaid}
 use Rattle.request_script.specs.Turn.Turn.{asks}
 use Rattle.request_script.specs.Zones.{key_of, is_skipped}
-use Rattle.request_script.specs.ReqLimits.{is_last, walk_ends, req_walk}
-use Rattle.request_script.specs.ConnLimits.{conn_passed, conn_walk}
+use Rattle.request_script.specs.ReqLimits.{is_last, walk_ends}
+use Rattle.request_script.specs.ConnLimits.{conn_passed}
 use Rattle.request_script.specs.Progress.{behind_conns, behind_reqs, conns_from, level_of, reqs_from, rest}
 
 -- the element at a place, and those behind it
