@@ -1,5 +1,4 @@
 pub mod ConfigLemmas
-pub mod ReverseLemmas
 pub mod WalkLemmas
 pub mod ScriptLemmas
 pub mod Totals
