@@ -4,3 +4,4 @@ pub mod Hexadecimal
 pub mod CheckText
 pub mod HistoryText
 pub mod TailText
+pub mod DecisionText

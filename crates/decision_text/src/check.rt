@@ -63,7 +63,7 @@ fn push_zone(text: &mut Vec<u8>, zone: &ZoneSpec) -> Result<(), AllocError>
 }
 
 /// The name of a zone.
-fn name_of(zone: &ZoneSpec) -> &[u8]
+pub(crate) fn name_of(zone: &ZoneSpec) -> &[u8]
     ensures { result.now ≡ zone_name zone.now }
 {
     match zone {

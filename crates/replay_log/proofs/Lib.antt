@@ -5,3 +5,4 @@ mod LocationLemmas
 mod PairLemmas
 mod NumberLemmas
 mod LimitLemmas
+mod KeyLemmas

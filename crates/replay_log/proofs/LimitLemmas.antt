@@ -15,30 +15,30 @@ use Rattle.replay_log.specs.declared.line.Event.{Event}
 use Rattle.replay_log.specs.declared.line.Event.TheVariants.{Start, Fail, Done}
 use Rattle.replay_log.specs.declared.line.Line.{Line}
 use Rattle.replay_log.specs.Lines.{Fault, parts, before_rest, lines_from}
-use Rattle.replay_log.specs.Words.{Locations, then_behind, or_kind, location_of, at_location, level_of, four_of, address_kind, octets_of, address_of}
-use Rattle.replay_log.specs.Requests.{pairs_of, start_of, at_address, at_level, ended, at_event, with_event, at_conn, at_moment, request_line, locations_in, requests_of}
+use Rattle.replay_log.specs.Words.{Locations, then_behind, ended, or_kind, location_of, at_location, level_of, four_of, address_kind, octets_of, address_of}
+use Rattle.replay_log.specs.Requests.{pairs_of, start_of, at_address, at_level, at_event, with_event, at_conn, at_moment, request_line, locations_in, requests_of}
 use Rattle.replay_log.specs.Limits.{IsLevelOf, IsEventOf, IsLineOf}
 use Rattle.replay_log.specs.Reading.{GivesLines}
 use Rattle.replay_log.proofs.NumberLemmas.{number-le}
 
 -- ---- answers in general
 
-same_Ok : {A E : Type 0} (a b : A) → (let r : Result A E = Ok a in r) ≡ Ok b → a ≡ b
+pub same_Ok : {A E : Type 0} (a b : A) → (let r : Result A E = Ok a in r) ≡ Ok b → a ≡ b
 same_Ok a b is = cc
 
 -- both parts are Ok
-then_ok : {A B : Type 0} (r : Result A ℕ) (f : A → Result B ℕ) (b : B) → then_behind r f ≡ Ok b → (a : A) × (r ≡ Ok a) × (f a ≡ Ok b)
+pub then_ok : {A B : Type 0} (r : Result A ℕ) (f : A → Result B ℕ) (b : B) → then_behind r f ≡ Ok b → (a : A) × (r ≡ Ok a) × (f a ≡ Ok b)
 then_ok (Ok a) f b is = (a, refl, is)
 then_ok (Err kind) f b is = absurd (cc)
 
-kind_ok : {A : Type 0} (kind : ℕ) (found : Option A) (a : A) → or_kind kind found ≡ Ok a → Some a ≡ found
+pub kind_ok : {A : Type 0} (kind : ℕ) (found : Option A) (a : A) → or_kind kind found ≡ Ok a → Some a ≡ found
 kind_ok kind None a is = absurd (cc)
 kind_ok kind (Some found) a is = ap Some (sym (same_Ok found a is))
 
 -- ---- words
 
 -- a number of a word is below the bound
-number_below : (kind bound : ℕ) (word : List ℕ) (n : ℕ) → 0 < bound → or_kind kind (number_of (bound - 1) word) ≡ Ok n → n < bound
+pub number_below : (kind bound : ℕ) (word : List ℕ) (n : ℕ) → 0 < bound → or_kind kind (number_of (bound - 1) word) ≡ Ok n → n < bound
 number_below kind bound word n some is =
     let within : n ≤ bound - 1 = number-le (bound - 1) word n (kind_ok kind (number_of (bound - 1) word) n is) in
     omega arith

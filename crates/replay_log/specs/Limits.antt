@@ -1,5 +1,6 @@
 -- The ranges of a line.
 use Rattle.std.specs.Prelude.{ℕ, ◌≡◌, ◌<◌, ◌≤◌, ◌^◌, Option, Some, None, length}
+use Rattle.replay_log.specs.declared.keys.KeyLine.{KeyLine}
 use Rattle.replay_log.specs.declared.line.Event.{Event}
 use Rattle.replay_log.specs.declared.line.Event.TheVariants.{Start, Fail, Done}
 use Rattle.replay_log.specs.declared.line.Line.{Line}
@@ -22,3 +23,7 @@ pub record IsLineOf (count : ℕ) (line : Line) : Type 0 where
   pub moment : line.moment < 2 ^ 42
   pub conn : line.conn < 2 ^ 32
   pub event : IsEventOf count line.event
+
+-- a line of a log of keys: a moment below 2^42 and a key with a byte
+abbrev pub IsKeyLine : KeyLine → Type 0
+IsKeyLine line = (line.moment < 2 ^ 42) × (0 < length line.key)

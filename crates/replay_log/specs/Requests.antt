@@ -8,7 +8,7 @@ use Rattle.replay_log.specs.declared.line.Event.{Event}
 use Rattle.replay_log.specs.declared.line.Event.TheVariants.{Start, Fail, Done}
 use Rattle.replay_log.specs.declared.line.Line.{Line}
 use Rattle.replay_log.specs.Lines.{Fault, parts, lines_of}
-use Rattle.replay_log.specs.Words.{Locations, then_behind, number_word, level_of, address_of, pair_of, is_given}
+use Rattle.replay_log.specs.Words.{Locations, then_behind, ended, number_word, level_of, address_of, pair_of, is_given}
 
 -- ---- an open
 
@@ -38,11 +38,6 @@ at_level locations [] = Err 5
 at_level locations (word ∷ words) = then_behind (level_of locations word) (λ level. at_address level words)
 
 -- ---- a line
-
--- a line is at an end after these words, or has one too many
-abbrev pub ended : Event → List (List ℕ) → Result Event ℕ
-ended event [] = Ok event
-ended event (word ∷ words) = Err 10
 
 -- the event, and what is behind it
 abbrev pub at_event : Locations → List (List ℕ) → Result Event ℕ

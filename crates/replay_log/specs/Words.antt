@@ -14,6 +14,11 @@ abbrev pub then_behind : {A B : Type 0} → Result A ℕ → (A → Result B ℕ
 then_behind (Ok said) behind = behind said
 then_behind (Err kind) behind = Err kind
 
+-- what a line says that is at its end after these words; or it has one too many
+abbrev pub ended : {A : Type 0} → A → List (List ℕ) → Result A ℕ
+ended said [] = Ok said
+ended said (word ∷ words) = Err 10
+
 -- what is there, or a fault of this kind
 abbrev pub or_kind : {A : Type 0} → ℕ → Option A → Result A ℕ
 or_kind kind None = Err kind

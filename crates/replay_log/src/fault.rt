@@ -63,6 +63,7 @@ pub enum LogFault {
     /// | 9 | a variable that was given before in the line |
     /// | 10 | a word too many |
     /// | 11 | the 131,073rd line; found before its other faults |
+    /// | 12 | the key of a log of keys |
     #[error("line {line}: {}", kind_text(*kind))]
     At { line: u64, kind: u32 },
     /// There was no memory for the lines.
@@ -105,6 +106,7 @@ fn kind_text(kind: u32) -> &'static str {
         9 => "a variable twice",
         10 => "a word too many",
         11 => "a line too many",
+        12 => "no key",
         _ => "a fault of no known kind",
     }
 }

@@ -3,6 +3,7 @@
 
 mod cut;
 mod fault;
+mod keys;
 mod line;
 mod lines;
 mod locations;
@@ -10,6 +11,7 @@ mod requests;
 mod words;
 
 pub use fault::{LineFault, LogFault};
+pub use keys::{KeyLine, read_keys};
 pub use line::{Event, Line};
 pub use lines::{LineForm, read_lines};
 pub use requests::read_log;

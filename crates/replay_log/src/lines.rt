@@ -1,4 +1,4 @@
-ghost use Rattle.std.specs.Prelude.{◌≡◌, ℕ, List, Result};
+ghost use Rattle.std.specs.Prelude.{◌≡◌, ◌≤◌, ℕ, List, Result, IfOk, length};
 ghost use Rattle.replay_log.specs.Lines.{lines_of};
 ghost use Rattle.replay_log.specs.Reading.{Tells, GivesLines};
 
@@ -32,7 +32,8 @@ pub fn read_lines<F: LineForm>(
     text: &[u8],
     form: &F,
 ) -> Result<Vec<F::Line>, LogFault>
-    ensures { GivesLines (lines_of (F.says form.now) text.now) result }
+    ensures value { GivesLines (lines_of (F.says form.now) text.now) result }
+    ensures few { IfOk result (λ lines. length lines.items ≤ 131072) }
 {
     let mut lines = Vec::new(alloc);
     let mut rest = text;

@@ -3,7 +3,7 @@ ghost use Rattle.std.specs.Ordering.{nat_cmp};
 ghost use Rattle.std.specs.List.{All};
 ghost use Rattle.std.specs.Cmp.Lexicographic.{slice_cmp};
 ghost use Rattle.std.specs.BTreeMap.{get_by};
-ghost use Rattle.replay_log.specs.Requests.{pairs_of, at_address, at_level, at_event, at_conn, request_line, requests_of, ended};
+ghost use Rattle.replay_log.specs.Requests.{pairs_of, at_address, at_level, at_event, at_conn, request_line, requests_of};
 ghost use Rattle.replay_log.specs.Limits.{IsLineOf};
 ghost use Rattle.replay_log.specs.Reading.{Tells, GivesLines, words_left};
 
@@ -11,16 +11,13 @@ use crate::fault::{LineFault, LogFault};
 use crate::line::{Event, Line};
 use crate::lines::{LineForm, read_lines};
 use crate::locations::numbers_of;
-use crate::words::{cut_pair, next_word, read_address, read_level, read_pair};
+use crate::words::{MOST_MOMENT, at_end, cut_pair, next_word, read_address, read_level, read_pair};
 use sqlite_items::Items;
 use std::alloc::Global;
 use std::collections::BTreeMap;
 use zone_config::Config;
 use zone_key::{Pair, Vars};
 use zone_outside::read_number;
-
-/// The last moment that a log may name, in ms.
-const MOST_MOMENT: u64 = 4_398_046_511_103;
 
 /// The last connection that a log may name.
 const MOST_CONN: u64 = 4_294_967_295;
@@ -80,16 +77,6 @@ fn read_open(
     };
     let level = read_level(alloc, numbers, word)?;
     read_start(alloc, level, words)
-}
-
-/// An event at the end of its line.
-fn at_end(event: Event, words: Option<&[u8]>) -> Result<Event, LineFault>
-    ensures { Tells (ended event (words_left words.entry)) result }
-{
-    match next_word(words) {
-        Some(_) => Err(LineFault::Kind(10)),
-        None => Ok(event),
-    }
 }
 
 /// What the words behind a connection say.
@@ -163,6 +150,7 @@ pub fn read_log(alloc: Global, text: &[u8], config: &Config) -> Result<Vec<Line>
     requires { length config.now.locations ≤ 64 }
     ensures value { GivesLines (requests_of config.now.locations text.now) result }
     ensures limits { IfOk result (λ lines. All (IsLineOf (length config.now.locations)) lines.items) }
+    ensures few { IfOk result (λ lines. length lines.items ≤ 131072) }
 {
     let numbers = numbers_of(alloc, config.locations.as_slice())?;
     let form = RequestForm { numbers };

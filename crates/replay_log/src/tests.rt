@@ -1,4 +1,4 @@
-use crate::{Event, Line, LogFault, read_log};
+use crate::{Event, Line, LogFault, read_keys, read_log};
 use sqlite_items::Items;
 use std::alloc::{AllocError, Global};
 use std::process::Abort;
@@ -193,5 +193,43 @@ fn reads_lines(rt: HostRuntime) -> Result<(), Fail> {
         (pairs[1].name.bytes(), pairs[1].value.bytes()),
         (b"b".as_slice(), b"".as_slice())
     );
+    Ok(())
+}
+
+/// Lines of a log of keys, and the kind of the first fault of each, 0 for none.
+const KEYS: [(&str, u32); 15] = [
+    ("", 2),
+    (" a", 2),
+    ("00 a", 2),
+    ("4398046511104 a", 2),
+    ("x %4", 2),
+    ("0", 12),
+    ("0 ", 12),
+    ("0  a", 12),
+    ("0 %4", 12),
+    ("0 %4 b", 12),
+    ("0 a\t", 12),
+    ("0 a ", 10),
+    ("0 a b", 10),
+    ("0 a", 0),
+    ("4398046511103 %2f%FF", 0),
+];
+
+/// Each line as the last, behind one that says nothing wrong.
+#[test]
+fn tells_the_first_fault_of_keys(rt: HostRuntime) -> Result<(), Fail> {
+    for (line, kind) in KEYS {
+        let mut log = Vec::new(rt.alloc());
+        push_line(&mut log, "7 a%20b")?;
+        push_line(&mut log, line)?;
+        match read_keys(rt.alloc(), &log) {
+            Ok(keys) => {
+                assert_eq!(rt; (keys.len(), kind), (2, 0), "{line}");
+                assert_eq!(rt; keys[0].moment, 7);
+                assert_eq!(rt; keys[0].key.bytes(), b"a b".as_slice());
+            }
+            Err(fault) => assert_eq!(rt; fault, LogFault::At { line: 2, kind }, "{line}"),
+        }
+    }
     Ok(())
 }

@@ -7,8 +7,8 @@ ghost use Rattle.zone_outside.specs.Coded.{decoded};
 ghost use Rattle.zone_outside.specs.Numbers.{is_empty, number_of};
 ghost use Rattle.zone_key.specs.Expr.{is_name_byte};
 ghost use Rattle.zone_key.specs.Printing.{is_other_name};
-ghost use Rattle.replay_log.specs.Words.{address_kind, address_of, level_of, named_pair, octets_of, pair_of};
-ghost use Rattle.replay_log.specs.Reading.{Tells, CutsWord};
+ghost use Rattle.replay_log.specs.Words.{address_kind, address_of, level_of, named_pair, octets_of, pair_of, ended};
+ghost use Rattle.replay_log.specs.Reading.{Tells, CutsWord, words_left};
 
 use crate::cut::cut;
 use crate::fault::LineFault;
@@ -16,6 +16,9 @@ use std::alloc::Global;
 use std::collections::BTreeMap;
 use zone_key::Pair;
 use zone_outside::{DecodeFault, Text, decode, read_number};
+
+/// The last moment that a log may name, in ms.
+pub(crate) const MOST_MOMENT: u64 = 4_398_046_511_103;
 
 /// The first of the words that are left of a line, and those behind it.
 pub(crate) fn next_word(words: Option<&[u8]>) -> Option<(&[u8], Option<&[u8]>)>
@@ -25,6 +28,16 @@ pub(crate) fn next_word(words: Option<&[u8]>) -> Option<(&[u8], Option<&[u8]>)>
     match cut(rest, b' ') {
         Some((word, behind)) => Some((word, Some(behind))),
         None => Some((rest, None)),
+    }
+}
+
+/// What a line says that is at its end after these words.
+pub(crate) fn at_end<T: Drop>(said: T, words: Option<&[u8]>) -> Result<T, LineFault>
+    ensures { Tells (ended said (words_left words.entry)) result }
+{
+    match next_word(words) {
+        Some(_) => Err(LineFault::Kind(10)),
+        None => Ok(said),
     }
 }
 

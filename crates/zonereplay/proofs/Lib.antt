@@ -1,5 +1,3 @@
-pub mod PartLemmas
-pub mod KeyLemmas
 pub mod LineLemmas
 pub mod StopLemmas
 pub mod AnswerLemmas

@@ -15,7 +15,7 @@ use Rattle.req_zone.specs.Object.{IsOpened, answer_of, zone_after, Permits, Read
 use Rattle.req_zone.specs.ObjectLaws.{ready-law}
 use Rattle.req_zone.specs.Proving.Answers.{answer-law}
 use Rattle.req_zone.specs.Lays.{Lays}
-use Rattle.zonereplay.specs.declared.keys.KeyLine.{KeyLine}
+use Rattle.replay_log.specs.declared.keys.KeyLine.{KeyLine}
 use Rattle.zonereplay.specs.Words.{OneJob}
 use Rattle.zonereplay.specs.OneText.{delayed_excess, check_of, is_long, reply_to, after_key, key_line, key_lines}
 use Rattle.zonereplay.specs.Checking.{HasAnswered}

@@ -1,6 +1,4 @@
 pub mod Words
-pub mod Keys
-pub mod Reading
 pub mod OneText
 pub mod Checking
 pub mod Statuses

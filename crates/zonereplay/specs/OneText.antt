@@ -10,7 +10,7 @@ use Rattle.req_zone.specs.declared.calls.ReqCall.TheVariants.{Check}
 use Rattle.req_zone.specs.declared.state.ReqState.{ReqState}
 use Rattle.req_zone.specs.Object.{opened_zone, answer_of, zone_after}
 use Rattle.decision_text.specs.Amounts.{thousandths}
-use Rattle.zonereplay.specs.declared.keys.KeyLine.{KeyLine}
+use Rattle.replay_log.specs.declared.keys.KeyLine.{KeyLine}
 use Rattle.zonereplay.specs.Words.{OneJob}
 
 -- the excess that a request is delayed for

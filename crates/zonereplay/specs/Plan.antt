@@ -7,12 +7,13 @@ use Rattle.zone_config.specs.declared.data.Config.{Config}
 use Rattle.config_rules.specs.Rules.{fault_of}
 use Rattle.zone_config.specs.Reading.{GivesConfig}
 use Rattle.decision_text.specs.CheckText.{check_text}
-use Rattle.zonereplay.specs.declared.keys.KeyLine.{KeyLine}
+use Rattle.replay_log.specs.declared.keys.KeyLine.{KeyLine}
 use Rattle.zonereplay.specs.declared.stop.Refusal.{Refusal}
 use Rattle.zonereplay.specs.declared.stop.Refusal.TheVariants.{Usage, TooLong, Text, Rule, Log}
 use Rattle.zonereplay.specs.Words.{Command, OneJob, command_of}
 use Rattle.zonereplay.specs.Words.Command.{one, check}
-use Rattle.zonereplay.specs.Keys.{Fault, keys_of}
+use Rattle.replay_log.specs.Lines.{Fault}
+use Rattle.replay_log.specs.Keys.{keys_of}
 use Rattle.zonereplay.specs.OneText.{one_text}
 use Rattle.zonereplay.specs.Told.{Told}
 use Rattle.zonereplay.specs.Told.Told.{exactly}

@@ -3,9 +3,7 @@
 
 mod close;
 mod commands;
-mod cut;
 mod job;
-mod keys;
 mod one;
 mod output;
 mod prepare;

@@ -8,11 +8,11 @@ ghost use Rattle.req_zone.specs.Lays.{Lays};
 ghost use Rattle.zonereplay.specs.Jobs.{asked};
 ghost use Rattle.zonereplay.specs.OneText.{delayed_excess, reply_to, after_key, zone_of, one_text};
 ghost use Rattle.zonereplay.specs.Checking.{HasAnswered};
-ghost use Rattle.zonereplay.specs.Reading.{IsInLimits};
+ghost use Rattle.replay_log.specs.Limits.{IsKeyLine};
 
 use crate::job::Job;
-use crate::keys::KeyLine;
 use crate::text::push_line;
+use replay_log::KeyLine;
 use req_zone::{OpenFault, ReqCall, ReqReply, ReqSpec, ReqZone};
 use std::alloc::Global;
 use zone_object::apply_uncounted;
@@ -48,7 +48,7 @@ fn open_zone(alloc: Global, job: Job) -> Result<ReqZone, NoMemory>
 /// than a zone takes.
 fn check(zone: &mut ReqZone, burst: u64, line: KeyLine) -> Option<ReqReply>
     requires known { ((job : OneJob) × (job.burst ≡ burst) × (job.burst ≤ greatest_burst)) }
-    requires limits { IsInLimits line }
+    requires limits { IsKeyLine line }
     requires answered { ((start s : ReqState) × (calls : ℕ) × HasAnswered zone.old start calls s × (calls + 1 < 2 ^ 32)) }
     ensures bound { IfSome result (λ reply. delayed_excess reply < 2 ^ 52) }
     ensures reply { (job : OneJob) (start s : ReqState) (calls : ℕ) → job.burst ≡ burst → HasAnswered zone.old start calls s → calls + 1 < 2 ^ 32 → result ≡ reply_to job s line }
@@ -68,7 +68,7 @@ fn check(zone: &mut ReqZone, burst: u64, line: KeyLine) -> Option<ReqReply>
 
 /// The text of `one` for the keys of a log, which are checked one after another in a fresh zone.
 pub(crate) fn text_of(alloc: Global, job: Job, keys: Vec<KeyLine>) -> Result<Text, NoMemory>
-    requires limits { All IsInLimits keys.items }
+    requires limits { All IsKeyLine keys.items }
     requires few { length keys.items ≤ 131072 }
     ensures { IfOk result (λ text. text ≡ one_text (asked job) keys.items) }
 {

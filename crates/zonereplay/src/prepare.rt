@@ -1,15 +1,15 @@
-ghost use Rattle.zonereplay.specs.Keys.{keys_of};
+ghost use Rattle.replay_log.specs.Keys.{keys_of};
 ghost use Rattle.zonereplay.specs.Jobs.{asked};
 ghost use Rattle.zonereplay.specs.Plan.{one_plan, one_run, check_plan, check_run};
 ghost use Rattle.zonereplay.specs.Devices.{Files};
 ghost use Rattle.zonereplay.specs.Stages.{Configures, Prepares, ReadsText};
 
 use crate::job::Job;
-use crate::keys::{LogFault, read_keys};
 use crate::one::text_of;
 use crate::stop::{Refusal, Stop};
 use decision_text::check_text;
 use directive_text::{TextFault, read};
+use replay_log::{LogFault, read_keys};
 use std::alloc::Global;
 use zone_config::{Config, ConfigFault, config_of};
 use zone_outside::{ReadAnswer, Shelf, Text, read_named};

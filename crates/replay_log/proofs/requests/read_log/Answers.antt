@@ -9,7 +9,7 @@ use Rattle.replay_log.proofs.requests.read_log.Goals as goal
 gives : goal.returns-clause-value
 gives c =
     let P : (List ℕ → Option ℕ) → Type 0 = λ found. GivesLines (lines_of (request_line found) c.args.text.now) c.read_lines.result in
-    subst P (fun_ext (λ name. c.in_ok-numbers.ensures name ∙ ap (λ levels. locations_in levels name) c.as_slice.ensures)) c.read_lines.ensures
+    subst P (fun_ext (λ name. c.in_ok-numbers.ensures name ∙ ap (λ levels. locations_in levels name) c.as_slice.ensures)) c.read_lines.ensures.value
 
 pub returns-clause-value : goal.returns-clause-value
 returns-clause-value c = gives c

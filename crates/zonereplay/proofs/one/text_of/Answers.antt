@@ -2,10 +2,10 @@ use Rattle.std.proofs.Common.{ℕ, ◌≡◌, ◌+◌, ◌<◌, ◌^◌, ◌++�
 use Rattle.std.specs.List.{All, concat}
 use Rattle.std.specs.Vec.Iter.{into_iter_items}
 use Rattle.std.proofs.lemmas.List.Elements.{All-head, All-tail}
-use Rattle.zonereplay.specs.declared.keys.KeyLine.{KeyLine}
+use Rattle.replay_log.specs.declared.keys.KeyLine.{KeyLine}
 use Rattle.zonereplay.specs.Jobs.{asked}
 use Rattle.zonereplay.specs.OneText.{zone_of, after_key, key_lines, one_text}
-use Rattle.zonereplay.specs.Reading.{IsInLimits}
+use Rattle.replay_log.specs.Limits.{IsKeyLine}
 use Rattle.zonereplay.proofs.OneLemmas.{opened_answered, answered_still, text_more}
 use Rattle.zonereplay.proofs.one.text_of.Goals as goal
 
@@ -28,8 +28,8 @@ check-reply-requires-clause-known c = (asked c.args.job, refl, c.args.job.burst_
 
 pub check-reply-requires-clause-limits : goal.check-reply-requires-clause-limits
 check-reply-requires-clause-limits c =
-    let limits : All IsInLimits (c.in-Some.line ∷ into_iter_items c.next.new.self) = subst (All IsInLimits) c.in-Some.ensures.steps.0 c.loop-line.invariant.limits in
-    All-head IsInLimits c.in-Some.line (into_iter_items c.next.new.self) limits
+    let limits : All IsKeyLine (c.in-Some.line ∷ into_iter_items c.next.new.self) = subst (All IsKeyLine) c.in-Some.ensures.steps.0 c.loop-line.invariant.limits in
+    All-head IsKeyLine c.in-Some.line (into_iter_items c.next.new.self) limits
 
 pub loop-line-preserved : goal.loop-line-preserved
 loop-line-preserved c =
@@ -43,13 +43,13 @@ loop-line-preserved c =
     let count : n + length (line ∷ rest) ≡ length c.args.keys.items + 1 = subst (λ (ls : List KeyLine). n + length ls ≡ length c.args.keys.items + 1) first c.loop-line.invariant.numbered in
     let few = c.requires.few in
     let below : n + 1 < 2 ^ 32 = omega (arith, count, few) in
-    let limits : All IsInLimits (line ∷ rest) = subst (All IsInLimits) first c.loop-line.invariant.limits in
+    let limits : All IsKeyLine (line ∷ rest) = subst (All IsKeyLine) first c.loop-line.invariant.limits in
     let was : one_text job c.args.keys.items ≡ c.loop-line.text.items ++ concat (key_lines job n a.0 (line ∷ rest)) = subst (λ (ls : List KeyLine). one_text job c.args.keys.items ≡ c.loop-line.text.items ++ concat (key_lines job n a.0 ls)) first a.2 in
     let reply = c.check-reply.ensures.reply job start a.0 n refl a.1 below in
     record {
       can = tt;
       finite = tt;
-      limits = All-tail IsInLimits line rest limits;
+      limits = All-tail IsKeyLine line rest limits;
       numbered = omega (arith, count);
       answered = (
         after_key job a.0 line,

@@ -1,6 +1,6 @@
 use Rattle.std.proofs.Common.{List, ℕ, subst}
 use Rattle.zonereplay.specs.Jobs.{asked}
-use Rattle.zonereplay.specs.Keys.{keys_of}
+use Rattle.replay_log.specs.Keys.{keys_of}
 use Rattle.zonereplay.specs.Plan.{Plan, one_run}
 use Rattle.zonereplay.specs.Devices.{Files}
 use Rattle.zonereplay.specs.Stages.{Prepares}

@@ -1,0 +1,45 @@
+-- The ranges of a log of keys, from what its lines say.
+use Rattle.std.proofs.Common.{ℕ, ◌≡◌, ◌-◌, ◌^◌, ◌<◌, List, [], ◌∷◌, length, Option, Some, None, Result, Ok, Err, IfOk, arith, subst}
+use Rattle.std.specs.List.{All}
+use Rattle.std.specs.declared.vec.Vec.{Vec}
+use Rattle.std.specs.declared.alloc.Global.{Global}
+use Rattle.zone_outside.specs.Coded.{decoded}
+use Rattle.zone_outside.specs.Numbers.{number_of}
+use Rattle.replay_log.specs.declared.fault.LogFault.{LogFault}
+use Rattle.replay_log.specs.declared.keys.KeyLine.{KeyLine}
+use Rattle.replay_log.specs.Lines.{parts}
+use Rattle.replay_log.specs.Words.{or_kind}
+use Rattle.replay_log.specs.Keys.{some_key, key_of, with_key, at_key, key_words, key_line, keys_of}
+use Rattle.replay_log.specs.Limits.{IsKeyLine}
+use Rattle.replay_log.specs.Reading.{GivesLines}
+use Rattle.replay_log.proofs.LimitLemmas.{same_Ok, then_ok, kind_ok, number_below, lines_all}
+
+-- a key that is read has a byte
+some_byte : (found : Option (List ℕ)) (key : List ℕ) → Some key ≡ some_key found → 0 < length key
+some_byte None key is = absurd (cc)
+some_byte (Some []) key is = absurd (cc)
+some_byte (Some (b ∷ bs)) key is = let same : key ≡ b ∷ bs = cc in rw same (omega arith)
+
+end_limits : (moment : ℕ) (words : List (List ℕ)) (key : List ℕ) (line : KeyLine) → moment < 2 ^ 42 → 0 < length key → with_key moment words key ≡ Ok line → IsKeyLine line
+end_limits moment [] key line early some is = let P : KeyLine → Type 0 = IsKeyLine in subst P (same_Ok _ line is) (early, some)
+end_limits moment (word ∷ words) key line early some is = absurd (cc)
+
+key_limits : (moment : ℕ) (words : List (List ℕ)) (line : KeyLine) → moment < 2 ^ 42 → at_key moment words ≡ Ok line → IsKeyLine line
+key_limits moment [] line early is = absurd (cc)
+key_limits moment (word ∷ words) line early is =
+    let at = then_ok (key_of word) _ line is in
+    end_limits moment words at.0 line early (some_byte (decoded word) at.0 (kind_ok 12 (some_key (decoded word)) at.0 at.1)) at.2
+
+line_limits : (words : List (List ℕ)) (line : KeyLine) → key_words words ≡ Ok line → IsKeyLine line
+line_limits [] line is = absurd (cc)
+line_limits (word ∷ words) line is =
+    let at = then_ok (or_kind 2 (number_of (2 ^ 42 - 1) word)) _ line is in
+    key_limits at.0 words line (number_below 2 (2 ^ 42) word at.0 (omega arith) at.1) at.2
+
+-- the keys of a log are in their ranges
+keys_limits : (text : List ℕ) (lines : List KeyLine) → keys_of text ≡ Ok lines → All IsKeyLine lines
+keys_limits text lines is = lines_all key_line IsKeyLine (λ n line found some last said. line_limits (parts 32 line) found said) 1 (parts 10 text) lines (omega arith) is
+
+pub limits_of_keys : (text : List ℕ) (result : Result (Vec KeyLine Global) LogFault) → GivesLines (keys_of text) result → IfOk result (λ lines. All IsKeyLine lines.items)
+limits_of_keys text (Ok lines) said = keys_limits text lines.items said
+limits_of_keys text (Err fault) said = tt
