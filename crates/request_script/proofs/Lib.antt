@@ -1,3 +1,6 @@
+pub mod ConfigLemmas
+pub mod WalkLemmas
+pub mod ScriptLemmas
 pub mod Totals
 pub mod Named
 pub mod Priced
@@ -16,7 +19,3 @@ pub mod PermittedLimits
 pub mod PermittedTurns
 pub mod PermittedDrives
 pub mod Following
-pub mod ConfigLemmas
-pub mod ReverseLemmas
-pub mod WalkLemmas
-pub mod ScriptLemmas

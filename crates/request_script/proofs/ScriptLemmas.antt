@@ -1,5 +1,5 @@
 -- What a script's word tells of the turn behind it, for those who drive one.
-use Rattle.std.proofs.Common.{◌≡◌, false, true, List, [], ◌∷◌, ◌++◌, refl}
+use Rattle.std.proofs.Common.{◌≡◌, false, true, refl}
 use Rattle.request_script.specs.declared.active.Active.{Active}
 use Rattle.request_script.specs.declared.call.ZoneCall.{ZoneCall}
 use Rattle.request_script.specs.declared.call.ZoneReply.{ZoneReply}
@@ -10,7 +10,7 @@ use Rattle.std.specs.Prelude.{ℕ, Option}
 use Rattle.request_script.specs.Drive.{with_active}
 use Rattle.request_script.specs.Script.{Stage, ScriptState, Comes, MayAnswer, MayBegin, arrives, next_of}
 use Rattle.request_script.specs.Script.Stage.{between, spent, waits}
-use Rattle.request_script.specs.Turn.{Turn, Exchange, Leads}
+use Rattle.request_script.specs.Turn.{Turn}
 use Rattle.request_script.specs.Turn.Turn.{asks, decides}
 
 -- a call is asked: the script waits for its reply
@@ -46,13 +46,6 @@ Comes-may_answer old new conn turn call comes = let asked = Comes-ask old new co
 -- one that has told a decision takes a line
 pub Comes-may_begin : (old new : ScriptState) (conn : ℕ) (turn : Turn) (decision : Decision) → Comes old new conn turn (Told decision) → MayBegin new.stage
 Comes-may_begin old new conn turn decision comes = let told = Comes-told old new conn turn decision comes in rw told.state tt
-
--- one exchange more leads on
-pub Leads-more : (turn : Turn) (es : List Exchange) (call : ZoneCall) (next : ZoneReply → Turn) (reply : ZoneReply)
-    → Leads turn es (asks call next) → Leads turn (es ++ record { call = call; reply = reply } ∷ []) (next reply)
-Leads-more turn [] call next reply leads = rw leads (refl, refl)
-Leads-more (asks other rest) (e ∷ es) call next reply leads = (leads.0, Leads-more (rest e.reply) es call next reply leads.1)
-Leads-more (decides decision active) (e ∷ es) call next reply leads = absurd leads
 
 -- ---- what may come next
 

@@ -1,5 +1,5 @@
 -- Walks along the limits of a level: what the walk from a place on does with the limit that stands there.
-use Rattle.std.proofs.Common.{◌≡◌, ℕ, ◌+◌, ◌<◌, ◌≤◌, Bool, true, false, nat_eq, List, [], ◌∷◌, length, drop, get_or, refl, subst, sym, inl, inr, add-one, arith}
+use Rattle.std.proofs.Common.{◌≡◌, ℕ, ◌+◌, ◌<◌, ◌≤◌, true, false, nat_eq, List, [], ◌∷◌, length, drop, get_or, refl, subst, sym, inl, inr, add-one, arith}
 use Rattle.std.proofs.Math.Seq.{drop-cons, drop-length}
 use Rattle.std.proofs.lemmas.Bool.{eq-eqb, cases_eq, ne_eqb}
 use Rattle.std.proofs.lemmas.List.{drop_all}
@@ -12,12 +12,13 @@ use Rattle.request_script.specs.declared.active.Opened.{Opened}
 use Rattle.request_script.specs.declared.call.ZoneCall.TheVariants as to
 use Rattle.request_script.specs.declared.progress.Opening.{Opening}
 use Rattle.request_script.specs.declared.progress.Progress.TheVariants as at
+use Rattle.request_script.specs.declared.progress.ReqAsked.TheVariants as kind
 use Rattle.request_script.specs.declared.said.Hold.{Hold}
 use Rattle.request_script.specs.declared.said.ReqSaid.{ReqSaid}
 use Rattle.request_script.specs.Turn.Turn.{asks}
 use Rattle.request_script.specs.Zones.{key_of, is_skipped}
-use Rattle.request_script.specs.ReqLimits.{is_last, walk_ends, req_walk}
-use Rattle.request_script.specs.ConnLimits.{conn_passed, conn_walk}
+use Rattle.request_script.specs.ReqLimits.{is_last, walk_ends}
+use Rattle.request_script.specs.ConnLimits.{conn_passed}
 use Rattle.request_script.specs.Progress.{behind_conns, behind_reqs, conns_from, level_of, reqs_from, rest}
 
 -- the element at a place, and those behind it
@@ -51,7 +52,7 @@ module _ (config : Config) (o : Opening) (place : ℕ) where
     -- one that is asked
     pub reqs-asked : (d : ReqLimit) → place < length limits → is_skipped 65535 (key_of config o.vars (get_or limits place d).zone) ≡ false
         → asks (to.Req (get_or limits place d).zone (Check (key_of config o.vars (get_or limits place d).zone) o.moment (get_or limits place d).burst (nat_eq (place + 1) (length limits))))
-        (rest config (at.Check o holds (get_or limits place d) (place + 1)))
+        (rest config (at.Reqs o holds (kind.Check (get_or limits place d) (place + 1))))
         ≡ reqs_from config o holds place
     reqs-asked d low asked = rw (drop-there limits _ place d are low, asked, is_last-there limits _ (place + 1) d are (omega arith)) refl
 

@@ -3,6 +3,7 @@ use Rattle.std.specs.Prelude.{ℕ, ◌≤◌, ◌&&◌, nat_eq, List, [], drop, 
 use Rattle.zone_config.specs.declared.data.Config.{Config}
 use Rattle.zone_config.specs.declared.data.Level.{Level}
 use Rattle.req_zone.specs.Amount.{IsRate}
+use Rattle.req_zone.specs.declared.calls.ReqReply.{ReqReply}
 use Rattle.request_script.specs.declared.active.Opened.{Opened}
 use Rattle.request_script.specs.declared.active.Taken.{Taken}
 use Rattle.request_script.specs.declared.call.ZoneReply.{ZoneReply}
@@ -19,6 +20,8 @@ use Rattle.request_script.specs.declared.progress.Progress.{Progress}
 use Rattle.request_script.specs.declared.progress.Progress.TheVariants as at
 use Rattle.request_script.specs.declared.progress.Purpose.{Purpose}
 use Rattle.request_script.specs.declared.progress.Purpose.TheVariants.{Begin, Next}
+use Rattle.request_script.specs.declared.progress.ReqAsked.{ReqAsked}
+use Rattle.request_script.specs.declared.progress.ReqAsked.TheVariants.{Check, Release, Account}
 use Rattle.request_script.specs.declared.progress.Step.{Step}
 use Rattle.request_script.specs.declared.progress.Step.TheVariants.{Ask, Told}
 use Rattle.request_script.specs.declared.said.Hold.{Hold}
@@ -94,13 +97,17 @@ module _ (config : Config) where
 
   -- ---- a line
 
+  -- what follows the reply of a request zone
+  abbrev pub behind_asked : Opening → List Hold → ReqAsked → ReqReply → Turn
+  behind_asked o holds (Check limit behind) reply =
+      after_check config o.moment o.vars (level_of o).req_dry limit holds (λ more. reqs_from o more behind) (behind_reqs o) reply
+  behind_asked o holds (Release said) reply = releases (reverse holds) (behind_reqs o said)
+  behind_asked o holds (Account hold greatest) reply =
+      accounts config o.moment o.vars (level_of o).req_dry (greater greatest (delay_by config hold.zone hold.allowed (accounted reply))) (reverse holds) (behind_reqs o)
+
   -- what follows the reply to the call that was asked last
   abbrev pub rest : Progress → ZoneReply → Turn
-  rest (at.Check o holds limit behind) = λ reply. after_check config o.moment o.vars (level_of o).req_dry limit holds
-      (λ more. reqs_from o more behind) (behind_reqs o) (req_reply reply)
-  rest (at.Release o holds said) = λ _. releases (reverse holds) (behind_reqs o said)
-  rest (at.Account o holds hold greatest) = λ reply. accounts config o.moment o.vars (level_of o).req_dry
-      (greater greatest (delay_by config hold.zone hold.allowed (accounted (req_reply reply)))) (reverse holds) (behind_reqs o)
+  rest (at.Reqs o holds asked) = λ reply. behind_asked o holds asked (req_reply reply)
   rest (at.Open o said opened limit behind) = λ reply. after_open config o.vars (level_of o).conn_dry limit opened
       (λ more. conns_from o said more behind) (behind_conns o said) (opened_in (conn_reply reply))
   rest (at.Close opened behind) = λ _. closes (reverse opened) (behind_closes behind)

@@ -60,28 +60,25 @@ pub(crate) struct Choice {
     pub(crate) opened: Items<Opened>,
 }
 
+/// Which call to a request zone was asked last.
+#[derive(Debug, Drop)]
+pub(crate) enum ReqAsked {
+    /// A check of a limit; `behind` is the place of the limit behind it.
+    Check { limit: ReqLimit, behind: usize },
+    /// A hold is let go, and then those that are left, the last one first.
+    Release { said: ReqSaid },
+    /// A hold is accounted, and then those that are left, the last one first.
+    Account { hold: Hold, greatest: Delay },
+}
+
 /// Which call of a line was asked last, and what is known for what follows.
 #[derive(Debug, Drop)]
 pub(crate) enum Progress {
-    /// A check of a limit; `behind` is the place of the limit behind it.
-    Check {
+    /// A request zone was asked, of a request with these holds.
+    Reqs {
         opening: Opening,
         holds: Items<Hold>,
-        limit: ReqLimit,
-        behind: usize,
-    },
-    /// A hold is let go, and these are left, of which the last is the next.
-    Release {
-        opening: Opening,
-        holds: Items<Hold>,
-        said: ReqSaid,
-    },
-    /// A hold is accounted, and these are left, of which the last is the next.
-    Account {
-        opening: Opening,
-        holds: Items<Hold>,
-        hold: Hold,
-        greatest: Delay,
+        asked: ReqAsked,
     },
     /// An open of a connection by a limit; `behind` is the place of the limit behind it.
     Open {

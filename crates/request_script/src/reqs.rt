@@ -1,12 +1,12 @@
 ghost use Rattle.std.specs.Prelude.{◌≡◌, ◌<◌, ◌^◌, reverse, IfOk};
 ghost use Rattle.request_script.specs.Replies.{HasSmallExcess};
 ghost use Rattle.request_script.specs.ReqLimits.{accounted, accounts, after_check, allowed_of, delay_by, delayed, greater, refused, releases, unset, walk_ends};
-ghost use Rattle.request_script.specs.Progress.{HasFewServers, HasRates, behind_reqs, level_of, reqs_from, step_turn};
+ghost use Rattle.request_script.specs.Progress.{HasFewServers, HasRates, behind_reqs, behind_asked, level_of, reqs_from, step_turn};
 
 use crate::call::ZoneCall;
 use crate::conns::after_reqs;
 use crate::decision::{Excess, ReqStatus};
-use crate::progress::{Opening, Progress, Step};
+use crate::progress::{Opening, Progress, ReqAsked, Step};
 use crate::said::{Delay, Hold, ReqSaid};
 use crate::zones::{is_skipped, key_of, level_at, rate_of};
 use req_zone::{Allowed, ReqCall, ReqReply, delay};
@@ -116,7 +116,7 @@ fn copy_of(limit: &ReqLimit) -> ReqLimit
 }
 
 /// Lets these holds go, the last one first.
-pub(crate) fn release(
+fn release(
     alloc: Global,
     config: &Config,
     opening: Opening,
@@ -135,10 +135,10 @@ pub(crate) fn release(
             zone: hold.zone,
             call: ReqCall::Release { at: hold.at },
         },
-        progress: Progress::Release {
+        progress: Progress::Reqs {
             opening,
             holds,
-            said,
+            asked: ReqAsked::Release { said },
         },
     })
 }
@@ -164,11 +164,10 @@ fn account(
                     now: opening.moment,
                 },
             },
-            progress: Progress::Account {
+            progress: Progress::Reqs {
                 opening,
                 holds,
-                hold,
-                greatest,
+                asked: ReqAsked::Account { hold, greatest },
             },
         }),
         None => {
@@ -229,11 +228,13 @@ pub(crate) fn walk_reqs(
                     zone: limit.zone,
                     call,
                 },
-                progress: Progress::Check {
+                progress: Progress::Reqs {
                     opening,
                     holds,
-                    limit: copy_of(limit),
-                    behind: place,
+                    asked: ReqAsked::Check {
+                        limit: copy_of(limit),
+                        behind: place,
+                    },
                 },
             });
         }
@@ -242,7 +243,7 @@ pub(crate) fn walk_reqs(
 }
 
 /// What a limit's zone has answered of a request with these holds.
-pub(crate) fn checked(
+fn checked(
     alloc: Global,
     config: &Config,
     opening: Opening,
@@ -296,7 +297,7 @@ fn accounted(reply: ReqReply) -> u64
 }
 
 /// A hold was accounted with this reply, and these are left.
-pub(crate) fn account_more(
+fn account_more(
     alloc: Global,
     config: &Config,
     opening: Opening,
@@ -312,4 +313,29 @@ pub(crate) fn account_more(
 {
     let delay = delay_by(config, hold.zone, hold.allowed, accounted(reply));
     account(alloc, config, opening, holds, greater(greatest, delay))
+}
+
+/// A request zone has answered what was asked of a request with these holds.
+pub(crate) fn answered(
+    alloc: Global,
+    config: &Config,
+    opening: Opening,
+    holds: Items<Hold>,
+    asked: ReqAsked,
+    reply: ReqReply,
+) -> Result<Step, NoMemory>
+    requires rates { HasRates config.now }
+    requires servers { HasFewServers config.now }
+    requires range { HasSmallExcess reply }
+    ensures { IfOk result (λ step. step_turn config.now step ≡ behind_asked config.now opening holds asked reply) }
+{
+    match asked {
+        ReqAsked::Check { limit, behind } => {
+            checked(alloc, config, opening, holds, limit, behind, reply)
+        }
+        ReqAsked::Release { said } => release(alloc, config, opening, holds, said),
+        ReqAsked::Account { hold, greatest } => {
+            account_more(alloc, config, opening, holds, hold, greatest, reply)
+        }
+    }
 }

@@ -13,7 +13,7 @@ use crate::conns::{close, opened};
 use crate::decision::Decision;
 use crate::peers::{chosen, ends, fails, tries_next};
 use crate::progress::{Behind, Opening, Progress, Step};
-use crate::reqs::{account_more, checked, release, walk_reqs};
+use crate::reqs::{answered, walk_reqs};
 use crate::vars::copy_of;
 use conn_zone::ConnReply;
 use peer_zone::PeerReply;
@@ -136,29 +136,11 @@ pub(crate) fn next_step(
     ensures { IfOk result (λ step. step_turn config.now step ≡ rest config.now progress reply) }
 {
     match progress {
-        Progress::Check {
+        Progress::Reqs {
             opening,
             holds,
-            limit,
-            behind,
-        } => {
-            let reply = req_reply(reply);
-            checked(alloc, config, opening, holds, limit, behind, reply)
-        }
-        Progress::Release {
-            opening,
-            holds,
-            said,
-        } => release(alloc, config, opening, holds, said),
-        Progress::Account {
-            opening,
-            holds,
-            hold,
-            greatest,
-        } => {
-            let reply = req_reply(reply);
-            account_more(alloc, config, opening, holds, hold, greatest, reply)
-        }
+            asked,
+        } => answered(alloc, config, opening, holds, asked, req_reply(reply)),
         Progress::Open {
             opening,
             said,

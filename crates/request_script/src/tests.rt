@@ -1,5 +1,6 @@
-ghost use Rattle.std.specs.Prelude.{OnOk};
+ghost use Rattle.std.specs.Prelude.{IfOk, OnOk};
 ghost use Rattle.std.specs.List.{All};
+ghost use Rattle.zone_config.specs.Conditions.{IsConfig};
 ghost use Rattle.request_script.specs.Replies.{HasSmallExcess, HasSmallIndex, IsInRange};
 ghost use Rattle.request_script.specs.Script.{MayBegin, state_of};
 
@@ -12,7 +13,7 @@ use sqlite_items::Items;
 use std::alloc::Global;
 use std::process::Abort;
 use std::test::Fail;
-use zone_config::{ConnData, MethodData, PeerData, ReqData, ServerData, config_of};
+use zone_config::{Config, ConnData, MethodData, PeerData, ReqData, ServerData, config_of};
 use zone_key::Vars;
 use zone_outside::Text;
 
@@ -173,29 +174,77 @@ fn peer(reply: PeerReply) -> ZoneReply
     ZoneReply::Peer { reply }
 }
 
-/// A limit lets a request go on, the next one refuses it, and the first one's hold is let go.
-#[test]
-fn a_limit_refuses(rt: HostRuntime) -> Result<(), Fail> {
-    let text =
-        b"http{limit_req_zone $binary_remote_addr zone=ra:1m rate=1r/s;limit_req_zone $binary_remote_addr zone=rb:1m rate=1r/s;server{location /{limit_req zone=ra burst=5;limit_req zone=rb;}}}";
-    let config = config_of(rt.alloc(), &read(rt.alloc(), text)?)?;
-    let mut script = Script::new(rt.alloc(), &config);
+/// What these directives say.
+fn configured(alloc: Global, text: &[u8]) -> Result<Config, Fail>
+    ensures { IfOk result IsConfig }
+{
+    let tree = read(alloc, text)?;
+    Ok(config_of(alloc, &tree)?)
+}
+
+/// Checks what a script asks of a line with these replies, and what it decides.
+fn expect(
+    rt: &impl Abort,
+    alloc: Global,
+    script: &mut Script<'_>,
+    line: Line,
+    replies: &[ZoneReply],
+    expected: &str,
+) -> Result<(), Fail>
+    requires may { MayBegin (state_of script.old).stage }
+    requires ranges { All IsInRange replies.now }
+    ensures { OnOk result (MayBegin (state_of script.new).stage) }
+{
+    let shown = run(rt, alloc, script, &line, replies)?;
+    assert_eq!(rt; shown.as_str(), expected);
+    Ok(())
+}
+
+/// The second of two limits refuses.
+fn expect_refusal(rt: &impl Abort, alloc: Global, config: &Config) -> Result<(), Fail>
+    requires { IsConfig config.now }
+{
+    let mut script = Script::new(alloc, config);
     let again = req(ReqReply::Again {
         excess: 500,
         at: 4224,
     });
     let busy = req(ReqReply::Busy { excess: 500 });
     let released = req(ReqReply::Released);
-    let second = line(1_000_500, 1, open(rt.alloc()));
-    let shown = run(
-        &rt,
-        rt.alloc(),
+    let opens = line(1_000_500, 1, open(alloc));
+    expect(
+        rt,
+        alloc,
         &mut script,
-        &second,
+        opens,
         &[again, busy, released],
-    )?;
-    assert_eq!(rt; shown.as_str(), REFUSED);
-    Ok(())
+        REFUSED,
+    )
+}
+
+/// A server fails, and the backup takes its request and ends it.
+fn expect_failure(rt: &impl Abort, alloc: Global, config: &Config) -> Result<(), Fail>
+    requires { IsConfig config.now }
+{
+    let mut script = Script::new(alloc, config);
+    let first = peer(PeerReply::Peer { index: 0 });
+    let none = peer(PeerReply::NoPeer);
+    let freed = peer(PeerReply::Freed);
+    let opens = line(11_900, 0, open(alloc));
+    expect(rt, alloc, &mut script, opens, &[first], OPENED)?;
+    let fails = line(11_900, 0, Event::Fail);
+    expect(rt, alloc, &mut script, fails, &[freed, none, first], FAILED)?;
+    let ends = line(11_900, 0, Event::Done);
+    expect(rt, alloc, &mut script, ends, &[freed], ENDED)
+}
+
+/// A limit lets a request go on, the next one refuses it, and the first one's hold is let go.
+#[test]
+fn a_limit_refuses(rt: HostRuntime) -> Result<(), Fail> {
+    let text =
+        b"http{limit_req_zone $binary_remote_addr zone=ra:1m rate=1r/s;limit_req_zone $binary_remote_addr zone=rb:1m rate=1r/s;server{location /{limit_req zone=ra burst=5;limit_req zone=rb;}}}";
+    let config = configured(rt.alloc(), text)?;
+    expect_refusal(&rt, rt.alloc(), &config)
 }
 
 /// A server fails, and the backup takes its request and ends it.
@@ -203,19 +252,6 @@ fn a_limit_refuses(rt: HostRuntime) -> Result<(), Fail> {
 fn a_server_fails(rt: HostRuntime) -> Result<(), Fail> {
     let text =
         b"http{upstream back{zone back 1m;server a;server b backup;}server{location /{proxy_pass http://back;}}}";
-    let config = config_of(rt.alloc(), &read(rt.alloc(), text)?)?;
-    let mut script = Script::new(rt.alloc(), &config);
-    let first = peer(PeerReply::Peer { index: 0 });
-    let none = peer(PeerReply::NoPeer);
-    let freed = peer(PeerReply::Freed);
-    let opened = line(11_900, 0, open(rt.alloc()));
-    let shown = run(&rt, rt.alloc(), &mut script, &opened, &[first])?;
-    assert_eq!(rt; shown.as_str(), OPENED);
-    let failed = line(11_900, 0, Event::Fail);
-    let shown = run(&rt, rt.alloc(), &mut script, &failed, &[freed, none, first])?;
-    assert_eq!(rt; shown.as_str(), FAILED);
-    let done = line(11_900, 0, Event::Done);
-    let shown = run(&rt, rt.alloc(), &mut script, &done, &[freed])?;
-    assert_eq!(rt; shown.as_str(), ENDED);
-    Ok(())
+    let config = configured(rt.alloc(), text)?;
+    expect_failure(&rt, rt.alloc(), &config)
 }

@@ -1,4 +1,3 @@
-use Rattle.std.proofs.Common.{◌∙◌}
 use Rattle.request_script.proofs.peers.peer_step.Goals as goal
 
 pub returns-in-Some : goal.returns-in-Some
