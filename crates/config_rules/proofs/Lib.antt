@@ -1,4 +1,5 @@
 pub mod Walks
 mod Steps
+mod Sets
 pub mod Fits
 pub mod Around

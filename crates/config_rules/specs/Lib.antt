@@ -2,6 +2,7 @@ pub mod Words
 pub mod Numbers
 pub mod Kinds
 pub mod Arguments
+pub mod Names
 pub mod Places
 pub mod Rules
 pub mod Answers

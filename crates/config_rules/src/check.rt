@@ -8,12 +8,12 @@ use crate::argument::meanings;
 use crate::earlier::{Earlier, ZoneNames, add_declared};
 use crate::fault::ConfigFault;
 use crate::kind::Kind;
+use crate::names::NameSet;
 use crate::place::{Spot, kind_at};
 use crate::rules::rule_of;
 use crate::walk::Walk;
 use crate::words::arguments_of;
 use directive_text::Directive;
-use sqlite_items::Items;
 use std::alloc::Global;
 use zone_outside::NoMemory;
 
@@ -41,8 +41,8 @@ fn zones_named(alloc: Global, directives: &[Directive]) -> Result<ZoneNames, NoM
     ensures { IfOk result (λ names. names ≡ zones_named (places_of directives.now)) }
 {
     let mut names = ZoneNames {
-        req: Items::new(alloc),
-        conn: Items::new(alloc),
+        req: NameSet::new(alloc),
+        conn: NameSet::new(alloc),
     };
     let mut walk = Walk::new(alloc, directives)?;
     'places: while let Some(place) = walk.next()? {

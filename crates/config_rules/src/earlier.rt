@@ -6,6 +6,7 @@ ghost use Rattle.config_rules.specs.Rules.{and_then_one, bytes_or_none, first_sa
 
 use crate::argument::Argument;
 use crate::kind::Kind;
+use crate::names::{CaselessNames, NameSet};
 use crate::numbers::zone_size;
 use crate::rules::location_name;
 use crate::words::{arguments_of, first_of, has_block};
@@ -18,9 +19,9 @@ use zone_outside::{NoMemory, Text};
 #[derive(Drop)]
 pub struct ZoneNames {
     /// Those that `limit_req_zone` declares.
-    pub req: Items<Text>,
+    pub req: NameSet,
     /// Those that `limit_conn_zone` declares.
-    pub conn: Items<Text>,
+    pub conn: NameSet,
 }
 
 /// What stands before a directive in its text.
@@ -33,7 +34,7 @@ pub struct Earlier {
     /// The names of the locations.
     pub location_names: Items<Text>,
     /// The names of the upstreams.
-    pub upstream_names: Items<Text>,
+    pub upstream_names: CaselessNames,
     /// Whether there is a `server` block in `http`.
     pub has_server: bool,
 }
@@ -143,17 +144,14 @@ fn add_location(
 /// Adds the name of an upstream.
 fn add_upstream(
     alloc: Global,
-    names: &mut Items<Text>,
+    names: &mut CaselessNames,
     kind: Kind,
     directive: &Directive,
 ) -> Result<(), NoMemory>
     ensures { OnOk result (names.new ≡ and_then_one names.old (name_if_upstream kind directive.now)) }
 {
     match kind {
-        Kind::Upstream => {
-            names.push(Text::of(alloc, first_of(arguments_of(directive)))?)?;
-            Ok(())
-        }
+        Kind::Upstream => names.add(alloc, first_of(arguments_of(directive))),
         _ => Ok(()),
     }
 }
@@ -169,14 +167,11 @@ fn is_server(kind: Kind, directive: &Directive) -> bool
 }
 
 /// Adds the name of the zone that an argument declares, if it declares one.
-fn add_name(alloc: Global, names: &mut Items<Text>, argument: &Argument) -> Result<(), NoMemory>
+fn add_name(alloc: Global, names: &mut NameSet, argument: &Argument) -> Result<(), NoMemory>
     ensures { OnOk result (names.new ≡ names.old ++ option_to_list (declared_name argument.now)) }
 {
     match declared_name(argument) {
-        Some(name) => {
-            names.push(Text::of(alloc, name.bytes())?)?;
-            Ok(())
-        }
+        Some(name) => names.add(alloc, name.bytes()),
         None => Ok(()),
     }
 }
@@ -184,7 +179,7 @@ fn add_name(alloc: Global, names: &mut Items<Text>, argument: &Argument) -> Resu
 /// Adds the names of all zones that arguments declare.
 pub(crate) fn add_declared(
     alloc: Global,
-    names: &mut Items<Text>,
+    names: &mut NameSet,
     arguments: &[Argument],
 ) -> Result<(), NoMemory>
     ensures { OnOk result (names.new ≡ names.old ++ filter_map declared_name arguments.now) }
@@ -204,7 +199,7 @@ impl Earlier {
             zone_names: Items::new(alloc),
             zone_bytes: 0,
             location_names: Items::new(alloc),
-            upstream_names: Items::new(alloc),
+            upstream_names: CaselessNames::new(alloc),
             has_server: false,
         }
     }

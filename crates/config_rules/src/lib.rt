@@ -6,6 +6,7 @@ mod check;
 pub mod earlier;
 pub mod fault;
 pub mod kind;
+pub mod names;
 pub mod numbers;
 pub mod place;
 mod rules;

@@ -5,7 +5,7 @@ ghost use Rattle.config_rules.specs.declared.argument.Argument.{Argument};
 ghost use Rattle.config_rules.specs.declared.earlier.Earlier.{Earlier};
 ghost use Rattle.config_rules.specs.declared.earlier.ZoneNames.{ZoneNames};
 ghost use Rattle.config_rules.specs.declared.kind.Kind.{Kind};
-ghost use Rattle.config_rules.specs.Words.{is_called, is_same_name};
+ghost use Rattle.config_rules.specs.Words.{is_called};
 ghost use Rattle.config_rules.specs.Places.{Place};
 ghost use Rattle.config_rules.specs.Rules.{argument_rules, declares_one_of, first_broken, form_rules, has_bad_rate, has_bad_size, has_repeats, has_size, has_taken_name, is_again, is_backup, is_backup_word, is_bad_key, is_delay, is_formed, is_in_list_of, is_large, is_name, is_once, is_other_method, is_out_of_range, is_parameter, is_primary, is_repeated, is_server_block, is_small, is_switch, is_too_many, is_twice, is_unknown, is_use_of, lacks_primary, limits_again, limits_by, location_name, misplaced, names_no_zone, order_rules, parameters, rules, second_server, uses_one_of};
 ghost use Rattle.config_rules.specs.Views.{place_now};
@@ -13,11 +13,12 @@ ghost use Rattle.config_rules.specs.Views.{place_now};
 use crate::argument::Argument;
 use crate::earlier::{Earlier, ZoneNames};
 use crate::kind::Kind;
+use crate::names::NameSet;
 use crate::numbers::{is_large_size, is_number_in, is_size, is_small_size, rate_of, time_of};
 use crate::place::Spot;
 use crate::words::{
-    arguments_of, behind_first, first_of, has_block, has_called, inner_of, is_called, is_same_name,
-    name_of, parameter_name, value_of,
+    arguments_of, behind_first, first_of, has_block, has_called, inner_of, is_called, name_of,
+    parameter_name, value_of,
 };
 use directive_text::Directive;
 use std::alloc::Global;
@@ -179,17 +180,17 @@ fn is_one_of(names: &[Text], name: &Text) -> bool
 }
 
 /// Whether an argument uses one of the zones of these names.
-fn uses_one_of(names: &[Text], argument: &Argument) -> bool
+fn uses_one_of(names: &NameSet, argument: &Argument) -> bool
     ensures { result ≡ uses_one_of names.now argument.now }
 {
     match argument {
-        Argument::Use { name } => is_one_of(names, name),
+        Argument::Use { name } => names.has(name.bytes()),
         _ => false,
     }
 }
 
 /// Whether one of the arguments uses one of the zones of these names.
-fn use_one_of(names: &[Text], arguments: &[Argument]) -> bool
+fn use_one_of(names: &NameSet, arguments: &[Argument]) -> bool
     ensures { result ≡ list_any (uses_one_of names.now) arguments.now }
 {
     arguments
@@ -202,8 +203,8 @@ fn names_no_zone(text: &ZoneNames, kind: Kind, arguments: &[Argument]) -> bool
     ensures { result ≡ names_no_zone text.now kind arguments.now }
 {
     match kind {
-        Kind::LimitReq => !use_one_of(text.req.as_slice(), arguments),
-        Kind::LimitConn => !use_one_of(text.conn.as_slice(), arguments),
+        Kind::LimitReq => !use_one_of(&text.req, arguments),
+        Kind::LimitConn => !use_one_of(&text.conn, arguments),
         _ => false,
     }
 }
@@ -430,13 +431,6 @@ pub fn location_name(alloc: Global, words: &[Text]) -> Result<Text, NoMemory>
     Ok(Text::from_vec(name))
 }
 
-/// Whether a name is one of these, without regard to the case of ASCII letters.
-fn is_one_of_upstreams(names: &[Text], name: &[u8]) -> bool
-    ensures { result ≡ list_any (is_same_name name.now) names.now }
-{
-    names.iter().any(|other| is_same_name(name, other.bytes()))
-}
-
 /// Rule 15: the name of an earlier location or upstream.
 fn has_taken_name(
     alloc: Global,
@@ -452,8 +446,9 @@ fn has_taken_name(
             Ok(is_one_of(earlier.location_names.as_slice(), &name))
         }
         Kind::Upstream => {
-            let name = first_of(arguments_of(directive));
-            Ok(is_one_of_upstreams(earlier.upstream_names.as_slice(), name))
+            earlier
+                .upstream_names
+                .has(alloc, first_of(arguments_of(directive)))
         }
         _ => Ok(false),
     }
