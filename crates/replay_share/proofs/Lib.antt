@@ -5,3 +5,9 @@ pub mod Serving
 pub mod Served
 pub mod Going
 pub mod Alone
+pub mod Solo
+pub mod Answering
+pub mod ZoneAnswers
+pub mod OneReplay
+pub mod ZoneHistories
+pub mod SomeReplay

@@ -4,3 +4,4 @@ pub mod Journals
 pub mod Opening
 pub mod Share
 pub mod Replay
+pub mod OneReplay

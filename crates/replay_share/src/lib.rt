@@ -6,6 +6,7 @@ mod journal;
 mod journals;
 mod opening;
 mod share;
+pub mod theorems;
 
 pub use answers::Answers;
 pub use journal::ZoneJournal;

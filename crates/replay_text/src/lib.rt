@@ -6,3 +6,6 @@ mod histories;
 
 pub use decisions::push_decisions;
 pub use histories::push_zones;
+
+#[cfg(test)]
+mod tests;

@@ -9,3 +9,4 @@ pub mod Devices
 pub mod Answers
 pub mod Stages
 pub mod Jobs
+pub mod OneShown

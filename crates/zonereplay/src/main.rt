@@ -15,6 +15,7 @@ mod tell;
 #[cfg(test)]
 mod tests;
 mod text;
+mod theorems;
 mod words;
 
 use close::close;

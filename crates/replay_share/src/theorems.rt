@@ -1,0 +1,11 @@
+//! What holds of every replay.
+ghost use Rattle.replay_share.specs.OneReplay.{OneReplay, SomeReplay};
+
+/// A replay by one worker has exactly one outcome, as theorems: by the configuration and the lines of the log alone, each
+/// line has one decision and each zone one history. Nothing runs.
+pub fn laws()
+    ensures one_replay { OneReplay }
+    ensures some_replay { SomeReplay }
+{
+    peer_zone::theorems::laws();
+}

@@ -1,0 +1,25 @@
+-- A replay by one worker has one text.
+use Rattle.std.specs.Prelude.{ℕ, ◌≡◌, ◌*◌, ◌<◌, ◌^◌, List, length, Option, Some, None}
+use Rattle.std.specs.List.{All}
+use Rattle.zone_config.specs.declared.data.Config.{Config}
+use Rattle.zone_config.specs.Conditions.{IsConfig}
+use Rattle.replay_log.specs.declared.line.Line.{Line}
+use Rattle.replay_log.specs.Limits.{IsLineOf}
+use Rattle.replay_share.specs.Opening.{refused_line}
+use Rattle.zonereplay.specs.Told.{ShowsReplay}
+use Rattle.zonereplay.specs.Plan.{plain_plan}
+use Rattle.zonereplay.specs.Stages.{Prints}
+
+-- Two texts that show a replay of the same lines by one worker are equal.
+abbrev pub OneShown : Type 0
+OneShown = (config : Config) (lines : List Line) (first second : List ℕ) → ShowsReplay config 1 lines first → ShowsReplay config 1 lines second → first ≡ second
+
+-- And there is one, where each zone has its blocks and the lines are few.
+abbrev pub SomeShown : Type 0
+SomeShown = (config : Config) (lines : List Line) → IsConfig config → refused_line config.zones ≡ None → All (IsLineOf (length config.locations)) lines → 3 * length lines < 2 ^ 32
+    → (text : List ℕ) × ShowsReplay config 1 lines text
+
+-- Where the files tell what they hold, `plain` writes one text.
+abbrev pub OnePlain : Type 0
+OnePlain = (contents : List ℕ → Option (List ℕ)) (name log given lines : List ℕ) (first second : List ℕ) → contents name ≡ Some given → contents log ≡ Some lines
+    → Prints contents (plain_plan name log) first → Prints contents (plain_plan name log) second → first ≡ second
