@@ -1,5 +1,6 @@
-ghost use Rattle.std.specs.Prelude.{◌≡◌, ◌∷◌, [], IfOk, OnOk};
+ghost use Rattle.std.specs.Prelude.{◌≡◌, ◌∷◌, [], IfOk, None};
 ghost use Rattle.zone_config.specs.Conditions.{IsConfig};
+ghost use Rattle.replay_share.specs.Opening.{refused_line};
 ghost use Rattle.made_log.specs.MadeConfig.{addr_limit, addr_zone, back_data, back_upstream, by_address, made_config, made_location, made_server, made_zones, one_limit, one_zone, server};
 
 use sqlite_items::Items;
@@ -176,10 +177,11 @@ fn made_location(alloc: Global) -> Result<Level, NoMemory>
 /// }
 /// ```
 ///
-/// `NoMemory`: there was none for it.
+/// Each server of the upstream has a block in its zone. `NoMemory`: there was none for the configuration.
 pub fn made_config(alloc: Global) -> Result<Config, NoMemory>
     ensures made { IfOk result (λ config. config ≡ made_config) }
     ensures in_limits { IfOk result IsConfig }
+    ensures opens { IfOk result (λ config. refused_line config.zones ≡ None) }
 {
     let zones = made_zones(alloc)?;
     let server = made_server(alloc)?;

@@ -59,12 +59,7 @@ fn event_of(alloc: Global, kind: u32, draw: u32) -> Event
 }
 
 /// Draws the line of a number, behind this moment in ms. Each line takes four draws, whatever its event.
-pub(crate) fn draw_line(
-    alloc: Global,
-    generator: &mut Lcg64Xsh32,
-    number: u32,
-    before: u64,
-) -> Line
+pub(crate) fn draw_line(alloc: Global, generator: &mut Lcg64Xsh32, number: u32, before: u64) -> Line
     requires { before < 2 ^ 42 }
     ensures line { result ≡ made_line number before generator.old }
     ensures after { generator.new ≡ after_line generator.old }

@@ -18,7 +18,7 @@ raise-one d first (suc i) (c ∷ counts) low =
     let at : first + suc i ≡ first + 1 + i = omega arith in
     ap (λ (cs : List ℕ). counted_for first d c ∷ cs)
     (ap (λ (z : ℕ). slice_set (raised_from (first + 1) d (take i counts) ++ drop i counts) i (counted_for z d (get_or (raised_from (first + 1) d (take i counts) ++ drop i counts) i 0))) at
-     ∙ raise-one d (first + 1) i counts (omega (arith, low)))
+    ∙ raise-one d (first + 1) i counts (omega (arith, low)))
 
 -- the count at a place is raised
 pub raise-next : (d : Decision) (i : ℕ) (counts : List ℕ) (new : ℕ) (now : List ℕ) → i < length counts → now ≡ raised_from 0 d (take i counts) ++ drop i counts → new ≡ counted_for i d (get_or now i 0)

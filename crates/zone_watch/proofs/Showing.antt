@@ -22,11 +22,11 @@ front xs k i d le low =
     ap (take (suc k)) (sym (swap_is xs k i d (omega arith) low)) ∙
     elim (below-or-at k i le) [
       | inl less ↦
-        take-set-le (suc k) (slice_set xs k (get_or xs i d)) i (get_or xs k d) less
-        ∙ take-suc-set xs k (get_or xs i d) (omega arith)
+          take-set-le (suc k) (slice_set xs k (get_or xs i d)) i (get_or xs k d) less
+          ∙ take-suc-set xs k (get_or xs i d) (omega arith)
       | inr same ↦
-        subst (λ (j : ℕ). take (suc k) (slice_set (slice_set xs k (get_or xs j d)) j (get_or xs k d)) ≡ take k xs ++ get_or xs j d ∷ []) same
-        (ap (λ (ys : List _). take (suc k) (slice_set ys k (get_or xs k d))) (set-get_or xs k d) ∙ take-suc-set xs k (get_or xs k d) (omega arith))
+          subst (λ (j : ℕ). take (suc k) (slice_set (slice_set xs k (get_or xs j d)) j (get_or xs k d)) ≡ take k xs ++ get_or xs j d ∷ []) same
+          (ap (λ (ys : List _). take (suc k) (slice_set ys k (get_or xs k d))) (set-get_or xs k d) ∙ take-suc-set xs k (get_or xs k d) (omega arith))
     ]
 
 -- and those behind that place stay
@@ -68,14 +68,15 @@ module _ {W : Type 0} (m : W → Watched) (n : Notice) where
   pub leaves : (all list : List W) (i k : ℕ) (d w : W) → i < length all → i < length list → k ≤ i → map m (take k list) ≡ stayed i all → drop i list ≡ drop i all
       → answers (m (get_or list i d)) n ≡ Leave → (map m (take k (slice_set list i w)) ≡ stayed (i + 1) all) × (drop (i + 1) (slice_set list i w) ≡ drop (i + 1) all)
   leaves all list i k d w low_all low_list le kept rest leave =
-      let here = same-place all list i d rest in
-      (ap (map m) (take-set-le k list i w le)
-       ∙ kept
-       ∙ sym (append-nil (stayed i all))
-       ∙ ap (λ (ws : List Watched). stayed i all ++ ws) (sym (one-leaves (m (get_or list i d)) leave) ∙ ap (λ (y : W). filter_map (left_after n) (m y ∷ [])) here)
-       ∙ sym (stayed-more all i d low_all)
-       ∙ ap (λ (j : ℕ). stayed j all) (sym (add-one i)),
-       drop-set-lt (i + 1) list i w (omega arith) ∙ same-behind all list i d low_all low_list rest)
+      let here = same-place all list i d rest in (
+        ap (map m) (take-set-le k list i w le)
+            ∙ kept
+            ∙ sym (append-nil (stayed i all))
+            ∙ ap (λ (ws : List Watched). stayed i all ++ ws) (sym (one-leaves (m (get_or list i d)) leave) ∙ ap (λ (y : W). filter_map (left_after n) (m y ∷ [])) here)
+            ∙ sym (stayed-more all i d low_all)
+            ∙ ap (λ (j : ℕ). stayed j all) (sym (add-one i)),
+        drop-set-lt (i + 1) list i w (omega arith) ∙ same-behind all list i d low_all low_list rest,
+      )
 
   -- one that stays moves behind those that stayed before it
   pub keeps : (all list : List W) (i k : ℕ) (d w : W) → i < length all → i < length list → k ≤ i → map m (take k list) ≡ stayed i all → drop i list ≡ drop i all
@@ -83,22 +84,23 @@ module _ {W : Type 0} (m : W → Watched) (n : Notice) where
       → (map m (take (k + 1) (swap (slice_set list i w) k i)) ≡ stayed (i + 1) all) × (drop (i + 1) (swap (slice_set list i w) k i) ≡ drop (i + 1) all)
   keeps all list i k d w low_all low_list le kept rest seen keep =
       let here = same-place all list i d rest in
-      let low_set : i < length (slice_set list i w) = subst (λ (j : ℕ). i < j) (sym (length-set list i w)) low_list in
-      (ap (λ (j : ℕ). map m (take j (swap (slice_set list i w) k i))) (add-one k)
-       ∙ ap (map m) (front (slice_set list i w) k i d le low_set)
-       ∙ ap (λ (y : W). map m (take k (slice_set list i w) ++ y ∷ [])) (get_or-set_same list i w d low_list)
-       ∙ ap (λ (ys : List W). map m (ys ++ w ∷ [])) (take-set-le k list i w le)
-       ∙ map-append m (take k list) (w ∷ [])
-       ∙ ap (λ (ws : List Watched). ws ++ m w ∷ []) kept
-       ∙ ap (λ (y : Watched). stayed i all ++ y ∷ []) seen
-       ∙ ap (λ (ws : List Watched). stayed i all ++ ws) (sym (one-stays (m (get_or list i d)) keep) ∙ ap (λ (y : W). filter_map (left_after n) (m y ∷ [])) here)
-       ∙ sym (stayed-more all i d low_all)
-       ∙ ap (λ (j : ℕ). stayed j all) (sym (add-one i)),
-       ap (λ (j : ℕ). drop j (swap (slice_set list i w) k i)) (add-one i)
-       ∙ behind (slice_set list i w) k i d le low_set
-       ∙ ap (λ (j : ℕ). drop j (slice_set list i w)) (sym (add-one i))
-       ∙ drop-set-lt (i + 1) list i w (omega arith)
-       ∙ same-behind all list i d low_all low_list rest)
+      let low_set : i < length (slice_set list i w) = subst (λ (j : ℕ). i < j) (sym (length-set list i w)) low_list in (
+        ap (λ (j : ℕ). map m (take j (swap (slice_set list i w) k i))) (add-one k)
+            ∙ ap (map m) (front (slice_set list i w) k i d le low_set)
+            ∙ ap (λ (y : W). map m (take k (slice_set list i w) ++ y ∷ [])) (get_or-set_same list i w d low_list)
+            ∙ ap (λ (ys : List W). map m (ys ++ w ∷ [])) (take-set-le k list i w le)
+            ∙ map-append m (take k list) (w ∷ [])
+            ∙ ap (λ (ws : List Watched). ws ++ m w ∷ []) kept
+            ∙ ap (λ (y : Watched). stayed i all ++ y ∷ []) seen
+            ∙ ap (λ (ws : List Watched). stayed i all ++ ws) (sym (one-stays (m (get_or list i d)) keep) ∙ ap (λ (y : W). filter_map (left_after n) (m y ∷ [])) here)
+            ∙ sym (stayed-more all i d low_all)
+            ∙ ap (λ (j : ℕ). stayed j all) (sym (add-one i)),
+        ap (λ (j : ℕ). drop j (swap (slice_set list i w) k i)) (add-one i)
+            ∙ behind (slice_set list i w) k i d le low_set
+            ∙ ap (λ (j : ℕ). drop j (slice_set list i w)) (sym (add-one i))
+            ∙ drop-set-lt (i + 1) list i w (omega arith)
+            ∙ same-behind all list i d low_all low_list rest,
+      )
 
 -- ---- notices one after another
 

@@ -20,7 +20,7 @@ refused-push zone (suc i) (c ∷ counts) low =
     let at : zone + suc i ≡ zone + 1 + i = omega arith in
     append_assoc (refused_line zone c) (refused_lines (zone + 1) (take i counts)) (refused_line (zone + suc i) (get_or counts i 0))
     ∙ ap (λ (t : List ℕ). refused_line zone c ++ t)
-      (ap (λ (z : ℕ). refused_lines (zone + 1) (take i counts) ++ refused_line z (get_or counts i 0)) at ∙ refused-push (zone + 1) i counts (omega (arith, low)))
+    (ap (λ (z : ℕ). refused_lines (zone + 1) (take i counts) ++ refused_line z (get_or counts i 0)) at ∙ refused-push (zone + 1) i counts (omega (arith, low)))
 
 -- the line of one zone more
 pub refused-grow : (old text new : List ℕ) (counts : List ℕ) (i : ℕ) → i < length counts → text ≡ old ++ refused_lines 0 (take i counts) → new ≡ text ++ refused_line i (get_or counts i 0)
@@ -36,7 +36,7 @@ pub reports-grow : {W : Type 0} (m : W → Watched) (old text new : List ℕ) (l
 reports-grow m old text new list i d low had grew =
     text-more old text new (reports_of (map m (take i list))) (report_of (m (get_or list i d))) (reports_of (map m (take (i + 1) list))) had grew
     (ap (λ (t : List ℕ). reports_of (map m (take i list)) ++ t) (sym (append-nil (report_of (m (get_or list i d)))))
-     ∙ sym (flat_map-append report_of (map m (take i list)) (m (get_or list i d) ∷ []))
-     ∙ ap reports_of (sym (map-append m (take i list) (get_or list i d ∷ [])))
-     ∙ ap (λ (xs : List _). reports_of (map m xs)) (sym (take-suc list i d low))
-     ∙ ap (λ (j : ℕ). reports_of (map m (take j list))) (sym (add-one i)))
+    ∙ sym (flat_map-append report_of (map m (take i list)) (m (get_or list i d) ∷ []))
+    ∙ ap reports_of (sym (map-append m (take i list) (get_or list i d ∷ [])))
+    ∙ ap (λ (xs : List _). reports_of (map m xs)) (sym (take-suc list i d low))
+    ∙ ap (λ (j : ℕ). reports_of (map m (take j list))) (sym (add-one i)))

@@ -20,13 +20,13 @@ impl Watcher for Patient {
     ghost use Rattle.zone_watch.specs.declared.stay.Stay.TheVariants.{Keep, Leave};
 
     ghost watched = { λ w. record {
-        rule = record {
-          after = λ counts notice. map one_more counts;
-          answer = λ counts notice. if nat_eq (one_more (slice_index_or counts 0 0)) w.last then Leave else Keep;
-          report = λ counts. with_count (codes "seen ") (slice_index_or counts 0 0);
-        };
-        counts = w.seen ∷ [];
-      } };
+      rule = record {
+        after = λ counts notice. map one_more counts;
+        answer = λ counts notice. if nat_eq (one_more (slice_index_or counts 0 0)) w.last then Leave else Keep;
+        report = λ counts. with_count (codes "seen ") (slice_index_or counts 0 0);
+      };
+      counts = w.seen ∷ [];
+    } };
 
     fn see(&mut self, _notice: &Notice) -> Stay {
         self.seen = self.seen.saturating_add(1);
@@ -48,7 +48,7 @@ impl Watcher for Patient {
 }
 
 /// One that leaves at this notice.
-fn patient(last: u64) -> Patient {
+fn leaving_at(last: u64) -> Patient {
     Patient {
         seen: 0,
         last,
@@ -76,10 +76,9 @@ const NEXT: PeerAt = PeerAt {
     index: 1,
 };
 
-/// Adds the notice of the next line.
+/// Adds a notice.
 fn push(notices: &mut Vec<Notice>, decision: Decision) -> Result<(), NoMemory> {
-    let line = notices.len() as u32 + 1;
-    notices.push(Notice { line, decision })?;
+    notices.push(Notice { line: 1, decision })?;
     Ok(())
 }
 
@@ -99,12 +98,26 @@ fn reports(alloc: Global, notices: &[Notice]) -> Result<Vec<u8>, NoMemory> {
 fn tells_a_short_log(rt: HostRuntime) -> Result<(), Fail> {
     let alloc = rt.alloc();
     let mut notices = Vec::new(alloc);
-    push(&mut notices, open(Outcome::Pass, ReqStatus::Passed, None, ConnStatus::Passed))?;
-    push(&mut notices, open(Outcome::Pass, ReqStatus::Delayed, Some(0), ConnStatus::Passed))?;
+    push(
+        &mut notices,
+        open(Outcome::Pass, ReqStatus::Passed, None, ConnStatus::Passed),
+    )?;
+    push(
+        &mut notices,
+        open(
+            Outcome::Pass,
+            ReqStatus::Delayed,
+            Some(0),
+            ConnStatus::Passed,
+        ),
+    )?;
     push(&mut notices, Decision::NextPeer { peer: NEXT })?;
     push(&mut notices, Decision::Ended)?;
     let text = reports(alloc, &notices)?;
-    assert_eq!(rt; text.as_slice(), b"status pass=2 limited=0 gateway=0 busy=0 next=1 ended=1 idle=0\n".as_slice());
+    assert_eq!(rt;
+        text.as_slice(),
+        b"status pass=2 limited=0 gateway=0 busy=0 next=1 ended=1 idle=0\n".as_slice()
+    );
     Ok(())
 }
 
@@ -114,18 +127,59 @@ fn tells_each_decision(rt: HostRuntime) -> Result<(), Fail> {
     let alloc = rt.alloc();
     let limited = Outcome::Limited { status: 429 };
     let mut notices = Vec::new(alloc);
-    push(&mut notices, open(limited, ReqStatus::Rejected, Some(15), ConnStatus::Unset))?;
-    push(&mut notices, open(limited, ReqStatus::Rejected, Some(16), ConnStatus::Unset))?;
-    push(&mut notices, open(limited, ReqStatus::Passed, None, ConnStatus::Rejected { zone: 1 }))?;
-    push(&mut notices, open(limited, ReqStatus::Delayed, Some(0), ConnStatus::Rejected { zone: 1 }))?;
-    push(&mut notices, open(Outcome::Pass, ReqStatus::RejectedDry, Some(0), ConnStatus::RejectedDry { zone: 1 }))?;
-    push(&mut notices, open(Outcome::Gateway, ReqStatus::Passed, None, ConnStatus::Passed))?;
+    push(
+        &mut notices,
+        open(limited, ReqStatus::Rejected, Some(15), ConnStatus::Unset),
+    )?;
+    push(
+        &mut notices,
+        open(limited, ReqStatus::Rejected, Some(16), ConnStatus::Unset),
+    )?;
+    push(
+        &mut notices,
+        open(
+            limited,
+            ReqStatus::Passed,
+            None,
+            ConnStatus::Rejected { zone: 1 },
+        ),
+    )?;
+    push(
+        &mut notices,
+        open(
+            limited,
+            ReqStatus::Delayed,
+            Some(0),
+            ConnStatus::Rejected { zone: 1 },
+        ),
+    )?;
+    push(
+        &mut notices,
+        open(
+            Outcome::Pass,
+            ReqStatus::RejectedDry,
+            Some(0),
+            ConnStatus::RejectedDry { zone: 1 },
+        ),
+    )?;
+    push(
+        &mut notices,
+        open(
+            Outcome::Gateway,
+            ReqStatus::Passed,
+            None,
+            ConnStatus::Passed,
+        ),
+    )?;
     push(&mut notices, Decision::FailGateway)?;
     push(&mut notices, Decision::Busy)?;
     push(&mut notices, Decision::IdleFail)?;
     push(&mut notices, Decision::IdleDone)?;
     let text = reports(alloc, &notices)?;
-    assert_eq!(rt; text.as_slice(), b"status pass=1 limited=4 gateway=2 busy=1 next=0 ended=0 idle=2\nrefused 1 2\nrefused 15 1\n".as_slice());
+    assert_eq!(rt;
+        text.as_slice(),
+        b"status pass=1 limited=4 gateway=2 busy=1 next=0 ended=0 idle=2\nrefused 1 2\nrefused 15 1\n".as_slice()
+    );
     Ok(())
 }
 
@@ -134,8 +188,8 @@ fn tells_each_decision(rt: HostRuntime) -> Result<(), Fail> {
 fn shows_up_to_the_leave(rt: HostRuntime) -> Result<(), Fail> {
     let alloc = rt.alloc();
     let mut list: Vec<Box<dyn Watcher>> = Vec::new(alloc);
-    list.push(Box::new(alloc, patient(2))?)?;
-    list.push(Box::new(alloc, patient(9))?)?;
+    list.push(Box::new(alloc, leaving_at(2))?)?;
+    list.push(Box::new(alloc, leaving_at(9))?)?;
     let mut notices = Vec::new(alloc);
     for _ in 0..3 {
         push(&mut notices, Decision::Ended)?;
@@ -154,7 +208,7 @@ fn empties_a_long_list(rt: HostRuntime) -> Result<(), Fail> {
     let alloc = rt.alloc();
     let mut list: Vec<Box<dyn Watcher>> = Vec::new(alloc);
     for _ in 0..10_000 {
-        list.push(Box::new(alloc, patient(1))?)?;
+        list.push(Box::new(alloc, leaving_at(1))?)?;
     }
     let notices = [Notice {
         line: 1,

@@ -9,7 +9,7 @@ use Rattle.made_log.proofs.lines.made_lines.Goals as goal
 pub loop-number-init : goal.loop-number-init
 loop-number-init c = record {
   made = lines-first c.args.seed c.args.count 1000000 c.in_ok-lines.lines.items c.generator_of-generator.result c.in_ok-lines.ensures.items refl c.generator_of-generator.ensures;
-  low = omega arith
+  low = omega arith;
 }
 
 pub draw_line-line-requires : goal.draw_line-line-requires
@@ -18,8 +18,8 @@ draw_line-line-requires c = omega (arith, c.loop-number.invariant.low, c.loop-nu
 pub loop-number-preserved : goal.loop-number-preserved
 loop-number-preserved c = record {
   made = lines-next c.loop-number.lines.items c.push.new.self.items (made_lines c.args.seed c.args.count) c.args.count c.loop-number.number c.loop-number.moment c.loop-number.generator c.draw_line-line.new.generator c.draw_line-line.result
-    c.loop-number-test.true c.loop-number.invariant.made c.draw_line-line.ensures.line c.draw_line-line.ensures.after c.in_ok-push.ensures.items;
-  low = moment-next c.draw_line-line.result (c.loop-number.number + 1) c.loop-number.moment c.loop-number.number c.loop-number.generator c.draw_line-line.ensures.line c.loop-number.invariant.low
+      c.loop-number-test.true c.loop-number.invariant.made c.draw_line-line.ensures.line c.draw_line-line.ensures.after c.in_ok-push.ensures.items;
+  low = moment-next c.draw_line-line.result (c.loop-number.number + 1) c.loop-number.moment c.loop-number.number c.loop-number.generator c.draw_line-line.ensures.line c.loop-number.invariant.low;
 }
 
 pub returns-clause-made : goal.returns-clause-made

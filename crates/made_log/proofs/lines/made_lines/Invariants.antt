@@ -6,5 +6,5 @@ use Rattle.made_log.proofs.lines.made_lines.Given as goal
 abbrev pub invariant-loop-number : goal.invariant-loop-number
 invariant-loop-number l = record {
   made : l.lines.items ++ lines_from (l.count - l.number) (l.number + 1) l.moment l.generator ≡ made_lines l.seed l.count;
-  low : l.moment ≤ 1000000 + 50 * l.number
+  low : l.moment ≤ 1000000 + 50 * l.number;
 }

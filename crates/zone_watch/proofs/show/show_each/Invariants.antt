@@ -8,5 +8,5 @@ abbrev pub invariant-loop-i : goal.invariant-loop-i
 invariant-loop-i g l = record {
   within : l.kept ≤ l.i;
   kept : map (λ b. (goal.Watcher-dyn g (b.vtable, b.value)).watched b.value) (take l.kept l.list) ≡ filter_map (left_after l.notice) (map (λ b. (goal.Watcher-dyn g (b.vtable, b.value)).watched b.value) (take l.i l.initial.list));
-  rest : drop l.i l.list ≡ drop l.i l.initial.list
+  rest : drop l.i l.list ≡ drop l.i l.initial.list;
 }
