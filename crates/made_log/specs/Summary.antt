@@ -1,5 +1,5 @@
 -- The summary of a replay of a made log.
-use Rattle.std.specs.Prelude.{ℕ, ◌+◌, Bool, true, false, List, [], ◌∷◌, ◌++◌, length, count_by, codes, decimal}
+use Rattle.std.specs.Prelude.{ℕ, ◌+◌, Bool, true, false, List, [], ◌∷◌, ◌++◌, length, count_by, codes}
 use Rattle.slab_model.specs.Counting.{free_pages}
 use Rattle.zone_object.specs.History.{run}
 use Rattle.req_zone.specs.Object as req
@@ -17,6 +17,7 @@ use Rattle.request_script.specs.declared.decision.Outcome.TheVariants.{Pass, Lim
 use Rattle.request_script.specs.declared.decision.ReqStatus.{ReqStatus}
 use Rattle.request_script.specs.declared.decision.ReqStatus.TheVariants.{Delayed}
 use Rattle.decision_text.specs.Coding.{coded}
+use Rattle.decision_text.specs.HistoryText.{with_number}
 use Rattle.replay_share.specs.Logs.{ReqEntry, ConnEntry, PeerEntry, ZoneLog, req_opened, conn_opened, peer_opened}
 use Rattle.replay_share.specs.Logs.ZoneLog.{req_log, conn_log, peer_log}
 
@@ -43,15 +44,15 @@ is_delayed _ = false
 -- `made lines=L pass=A delayed=B limited=C gateway=D`
 abbrev pub decisions_line : List Decision → List ℕ
 decisions_line decisions =
-    codes "made lines=" ++ decimal (length decisions) ++ codes " pass=" ++ decimal (count_by is_pass decisions) ++ codes " delayed=" ++ decimal (count_by is_delayed decisions)
-    ++ codes " limited=" ++ decimal (count_by is_limited decisions) ++ codes " gateway=" ++ decimal (count_by is_gateway decisions) ++ codes "\n"
+    with_number (codes "made lines=") (length decisions) ++ with_number (codes " pass=") (count_by is_pass decisions) ++ with_number (codes " delayed=") (count_by is_delayed decisions)
+    ++ with_number (codes " limited=") (count_by is_limited decisions) ++ with_number (codes " gateway=") (count_by is_gateway decisions) ++ codes "\n"
 
 -- ---- the zones
 
 -- `zone NAME KIND calls=N entries=E free=F`, with blanks around the kind
 abbrev pub zone_line : List ℕ → List ℕ → ℕ → ℕ → ℕ → List ℕ
 zone_line name kind calls entries free =
-    codes "zone " ++ coded name ++ kind ++ codes "calls=" ++ decimal calls ++ codes " entries=" ++ decimal entries ++ codes " free=" ++ decimal free ++ codes "\n"
+    codes "zone " ++ coded name ++ kind ++ with_number (codes "calls=") calls ++ with_number (codes " entries=") entries ++ with_number (codes " free=") free ++ codes "\n"
 
 -- the line of a zone of each kind after its history
 abbrev pub req_line : ReqData → List ReqEntry → List ℕ

@@ -159,6 +159,23 @@ fn made_location(alloc: Global) -> Result<Level, NoMemory>
     })
 }
 
+/// The configuration, part by part.
+fn built(alloc: Global) -> Result<Config, NoMemory>
+    ensures { IfOk result (λ config. config ≡ made_config) }
+{
+    let zones = made_zones(alloc)?;
+    let server = made_server(alloc)?;
+    let upstream = back_upstream(alloc)?;
+    let location = made_location(alloc)?;
+    Ok(Config {
+        zones,
+        upstreams: only(alloc, upstream)?,
+        server,
+        locations: only(alloc, location)?,
+        passed: 0,
+    })
+}
+
 /// The configuration in which the made log is replayed. It is the one that these directives give:
 ///
 /// ```text
@@ -183,15 +200,6 @@ pub fn made_config(alloc: Global) -> Result<Config, NoMemory>
     ensures in_limits { IfOk result IsConfig }
     ensures opens { IfOk result (λ config. refused_line config.zones ≡ None) }
 {
-    let zones = made_zones(alloc)?;
-    let server = made_server(alloc)?;
-    let upstream = back_upstream(alloc)?;
-    let location = made_location(alloc)?;
-    Ok(Config {
-        zones,
-        upstreams: only(alloc, upstream)?,
-        server,
-        locations: only(alloc, location)?,
-        passed: 0,
-    })
+    let config = built(alloc)?;
+    Ok(config)
 }

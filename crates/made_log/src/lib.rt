@@ -5,10 +5,12 @@ mod config;
 mod draws;
 mod lines;
 mod summary;
+mod zones;
 
 pub use config::made_config;
 pub use lines::made_lines;
-pub use summary::{push_decisions_line, push_zone_line};
+pub use summary::push_decisions_line;
+pub use zones::push_zone_summary;
 
 #[cfg(test)]
 mod tests;

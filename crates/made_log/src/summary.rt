@@ -1,4 +1,5 @@
-ghost use Rattle.std.specs.Prelude.{◌≡◌, ◌++◌, OnOk, decimal};
+ghost use Rattle.std.specs.Prelude.{◌≡◌, ◌++◌, OnOk, count_by};
+ghost use Rattle.decision_text.specs.HistoryText.{with_number};
 ghost use Rattle.made_log.specs.Summary.{decisions_line, is_delayed, is_gateway, is_limited, is_pass, zone_line};
 
 use decision_text::{push_coded, push_number};
@@ -58,9 +59,37 @@ fn is_delayed(decision: &Decision) -> bool
     )
 }
 
+/// How many opens pass.
+fn passed(decisions: &[Decision]) -> u64
+    ensures { result ≡ count_by is_pass decisions.now }
+{
+    decisions.iter().filter(|d| is_pass(d)).count() as u64
+}
+
+/// How many opens are delayed.
+fn delayed(decisions: &[Decision]) -> u64
+    ensures { result ≡ count_by is_delayed decisions.now }
+{
+    decisions.iter().filter(|d| is_delayed(d)).count() as u64
+}
+
+/// How many opens a limit refuses.
+fn limited(decisions: &[Decision]) -> u64
+    ensures { result ≡ count_by is_limited decisions.now }
+{
+    decisions.iter().filter(|d| is_limited(d)).count() as u64
+}
+
+/// How many opens find no server. A failure that ends with 502 isn't counted.
+fn gateway(decisions: &[Decision]) -> u64
+    ensures { result ≡ count_by is_gateway decisions.now }
+{
+    decisions.iter().filter(|d| is_gateway(d)).count() as u64
+}
+
 /// Adds a word and a number behind it.
 fn push_with(text: &mut Vec<u8>, word: &[u8], number: u64) -> Result<(), AllocError>
-    ensures { OnOk result (text.new.items ≡ text.old.items ++ word.now ++ decimal number) }
+    ensures { OnOk result (text.new.items ≡ text.old.items ++ with_number word.now number) }
 {
     text.extend_from_slice(word)?;
     push_number(text, number)
@@ -71,21 +100,18 @@ fn push_with(text: &mut Vec<u8>, word: &[u8], number: u64) -> Result<(), AllocEr
 pub fn push_decisions_line(text: &mut Vec<u8>, decisions: &[Decision]) -> Result<(), AllocError>
     ensures { OnOk result (text.new.items ≡ text.old.items ++ decisions_line decisions.now) }
 {
-    let passed = decisions.iter().filter(|d| is_pass(d)).count();
-    let delayed = decisions.iter().filter(|d| is_delayed(d)).count();
-    let limited = decisions.iter().filter(|d| is_limited(d)).count();
-    let gateway = decisions.iter().filter(|d| is_gateway(d)).count();
     push_with(text, b"made lines=", decisions.len() as u64)?;
-    push_with(text, b" pass=", passed as u64)?;
-    push_with(text, b" delayed=", delayed as u64)?;
-    push_with(text, b" limited=", limited as u64)?;
-    push_with(text, b" gateway=", gateway as u64)?;
-    text.extend_from_slice(b"\n")
+    push_with(text, b" pass=", passed(decisions))?;
+    push_with(text, b" delayed=", delayed(decisions))?;
+    push_with(text, b" limited=", limited(decisions))?;
+    push_with(text, b" gateway=", gateway(decisions))?;
+    text.extend_from_slice(b"\n")?;
+    Ok(())
 }
 
 /// Adds `zone NAME KIND calls=N entries=E free=F` of a zone after so many calls: its entries and its free pages. `kind` has
 /// blanks around it.
-pub fn push_zone_line<V: ZoneView>(
+pub(crate) fn push_zone_line<V: ZoneView>(
     text: &mut Vec<u8>,
     name: &[u8],
     kind: &[u8],
@@ -102,5 +128,6 @@ pub fn push_zone_line<V: ZoneView>(
     push_with(text, b"calls=", calls)?;
     push_with(text, b" entries=", zone.entry_count())?;
     push_with(text, b" free=", zone.free_count())?;
-    text.extend_from_slice(b"\n")
+    text.extend_from_slice(b"\n")?;
+    Ok(())
 }
