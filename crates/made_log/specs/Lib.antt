@@ -1,0 +1,4 @@
+pub mod Draws
+pub mod MadeLog
+pub mod MadeConfig
+pub mod Summary

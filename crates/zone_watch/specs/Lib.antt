@@ -1,0 +1,5 @@
+pub mod Watched
+pub mod Counting
+pub mod StatusCounts
+pub mod RefusedCounts
+pub mod Notices

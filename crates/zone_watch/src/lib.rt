@@ -1,0 +1,22 @@
+//! Watchers of a replay: each is shown what was decided of each line, until it leaves, and reports in the end.
+#![tactic(auto)]
+
+mod counting;
+mod notices;
+mod refused;
+mod reports;
+mod show;
+mod status;
+mod stay;
+mod watcher;
+
+pub use notices::notices_of;
+pub use refused::RefusedWatch;
+pub use reports::push_reports;
+pub use show::show_all;
+pub use status::StatusWatch;
+pub use stay::Stay;
+pub use watcher::Watcher;
+
+#[cfg(test)]
+mod tests;
