@@ -27,8 +27,7 @@ shows specs journals n spec journal old new low low_journal spec_is journal_is a
     let shown : ShowsWords spec (log_of journal) image = record { words = added.words; image = record { laid = added.laid; wide = added.wide }; text_is = refl } in
     let spec_at : slice_get specs n ≡ Some spec = slice_get-get_or specs n spec low ∙ ap Some (sym spec_is) in
     let journal_at : slice_get journals n ≡ Some journal = slice_get-get_or journals n journal low_journal ∙ ap Some (sym journal_is) in
-    let log_at : slice_get (map log_of journals) n ≡ Some (log_of journal) = slice_get-map log_of journals n ∙ ap (option_map log_of) journal_at in
-    (
+    let log_at : slice_get (map log_of journals) n ≡ Some (log_of journal) = slice_get-map log_of journals n ∙ ap (option_map log_of) journal_at in (
       image,
       subst (λ (o : Option ZoneSpec). ShowsWordsAt o (slice_get (map log_of journals) n) image) (sym spec_at) (subst (λ (o : Option ZoneLog). ShowsWordsAt (Some spec) o image) (sym log_at) shown),
       added.grown,
@@ -44,9 +43,11 @@ push_words-requires c =
     let specs = c.args.specs.now in
     let zones = c.args.zones.now in
     let n = c.args.number in
-    let journal = c.index-journals-number.result in
-    (served.0, journal-at served.0 specs zones n c.index-specs-number.result journal served.2.each c.requires.there (below served.0 specs zones n served.2.each c.requires.there) c.index-specs-number.is
-      (c.index-journals-number.is ∙ ap (λ (js : List ZoneJournal). get_or js n journal) c.as_slice-journals.ensures))
+    let journal = c.index-journals-number.result in (
+      served.0,
+      journal-at served.0 specs zones n c.index-specs-number.result journal served.2.each c.requires.there (below served.0 specs zones n served.2.each c.requires.there) c.index-specs-number.is
+          (c.index-journals-number.is ∙ ap (λ (js : List ZoneJournal). get_or js n journal) c.as_slice-journals.ensures),
+    )
 
 pub returns : goal.returns
 returns c room asked serves =
