@@ -1,5 +1,6 @@
 -- What is printed of a zone after its history: how full it is, and its words.
-use Rattle.std.specs.Prelude.{ℕ, ◌+◌, nat_eq, if◌then◌else◌, List, [], ◌∷◌, ◌++◌, length, codes, decimal}
+use Rattle.std.specs.Prelude.{ℕ, ◌+◌, ◌^◌, ◌<◌, nat_eq, if◌then◌else◌, List, [], ◌∷◌, ◌++◌, length, codes, decimal}
+use Rattle.std.specs.List.{All}
 use Rattle.slab_model.specs.declared.stat.Stat.{Stat}
 use Rattle.slab_model.specs.Geometry.{class_size}
 use Rattle.decision_text.specs.Coding.{coded}
@@ -29,6 +30,10 @@ tail_text pages free entries stats =
     with_number (codes "pages ") pages ++ with_number (codes " free ") free ++ with_number (codes " entries ") entries ++ codes "\n" ++ slots_text 0 stats
 
 -- ---- the words
+
+-- words of 64 bits
+abbrev pub AreWords : List ℕ → Type 0
+AreWords words = All (λ (word : ℕ). word < 2 ^ 64) words
 
 -- `w INDEX VALUE` for a word that isn't 0, and nothing for one that is
 abbrev pub word_text : ℕ → ℕ → List ℕ

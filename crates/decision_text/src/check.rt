@@ -62,8 +62,8 @@ fn push_zone(text: &mut Vec<u8>, zone: &ZoneSpec) -> Result<(), AllocError>
     }
 }
 
-/// The name of a zone.
-pub(crate) fn name_of(zone: &ZoneSpec) -> &[u8]
+/// The name of a zone of a configuration.
+pub fn name_of(zone: &ZoneSpec) -> &[u8]
     ensures { result.now ≡ zone_name zone.now }
 {
     match zone {

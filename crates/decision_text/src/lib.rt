@@ -14,7 +14,7 @@ mod tail;
 mod tests;
 pub mod theorems;
 
-pub use check::check_text;
+pub use check::{check_text, name_of};
 pub use coding::push_coded;
 pub use decision::push_decision;
 pub use history::{push_conn_entry, push_peer_entry, push_req_entry, push_zone_head};

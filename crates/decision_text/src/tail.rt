@@ -1,5 +1,5 @@
 ghost use Rattle.std.specs.Prelude.{◌≡◌, ◌++◌, ◌<◌, ◌≤◌, OnOk, length};
-ghost use Rattle.decision_text.specs.TailText.{slot_line, slot_text, slots_text, tail_text, word_text, words_text, image_text};
+ghost use Rattle.decision_text.specs.TailText.{AreWords, slot_line, slot_text, slots_text, tail_text, word_text, words_text, image_text};
 
 use crate::coding::push_coded;
 use crate::hexadecimal::push_hex_word;
@@ -75,7 +75,8 @@ fn push_word(alloc: Global, text: &mut Vec<u8>, index: u64, value: u64) -> Resul
 
 /// Adds `w INDEX VALUE` for each word of a zone that isn't 0.
 fn push_words<V: ZoneView>(alloc: Global, text: &mut Vec<u8>, zone: &V) -> Result<(), AllocError>
-    ensures { OnOk result (text.new.items ≡ text.old.items ++ words_text 0 (V.image zone.now)) }
+    ensures text { OnOk result (text.new.items ≡ text.old.items ++ words_text 0 (V.image zone.now)) }
+    ensures wide { OnOk result (AreWords (V.image zone.now)) }
 {
     for index in 0..zone.words() {
         push_word(alloc, text, index, zone.word_at(index))?;
@@ -83,14 +84,15 @@ fn push_words<V: ZoneView>(alloc: Global, text: &mut Vec<u8>, zone: &V) -> Resul
     Ok(())
 }
 
-/// Adds the words of a zone: `zone NAME words N`, and `w INDEX VALUE` for each word that isn't 0.
+/// Adds the words of a zone: `zone NAME words N`, and `w INDEX VALUE` for each word that isn't 0. Each of them has 64 bits.
 pub fn push_image<V: ZoneView>(
     alloc: Global,
     text: &mut Vec<u8>,
     name: &[u8],
     zone: &V,
 ) -> Result<(), AllocError>
-    ensures { OnOk result (text.new.items ≡ text.old.items ++ image_text name.now (V.image zone.now)) }
+    ensures text { OnOk result (text.new.items ≡ text.old.items ++ image_text name.now (V.image zone.now)) }
+    ensures wide { OnOk result (AreWords (V.image zone.now)) }
 {
     text.extend_from_slice(b"zone ")?;
     push_coded(text, name)?;

@@ -1,9 +1,17 @@
-ghost use Rattle.std.specs.Prelude.{◌≡◌, ◌<◌, List, ℕ, Some};
+ghost use Rattle.std.specs.Prelude.{◌≡◌, ◌<◌, ◌^◌, List, ℕ, Some, length};
 ghost use Rattle.std.specs.List.{All};
 ghost use Rattle.zone_outside.specs.Coded.{decoded};
 ghost use Rattle.decision_text.specs.Coding.{coded};
+ghost use Rattle.decision_text.specs.TailText.{AreWords, image_text};
 
 /// A name that was printed reads back as coded text, as a theorem. Nothing runs.
 pub fn coded_reads_back()
     ensures { (name : List ℕ) → All (λ b. b < 256) name → decoded (coded name) ≡ Some name }
+{}
+
+/// The text of a zone's words tells each of them, as a theorem: two lists of words of 64 bits with one text are equal.
+/// Nothing runs.
+pub fn image_tells_its_words()
+    ensures { (name words others : List ℕ) → AreWords words → AreWords others → length words < 2 ^ 64 → length others < 2 ^ 64
+        → image_text name words ≡ image_text name others → words ≡ others }
 {}

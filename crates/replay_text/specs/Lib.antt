@@ -1,1 +1,2 @@
 pub mod ReplayText
+pub mod Images

@@ -1,11 +1,13 @@
-//! The text of a replay: what was decided of each line, and the history of each zone.
+//! The text of a replay: what was decided of each line, and the history of each zone; and the words of a zone after it.
 #![tactic(auto)]
 
 mod decisions;
 mod histories;
+mod images;
 
 pub use decisions::push_decisions;
 pub use histories::push_zones;
+pub use images::push_zone_words;
 
 #[cfg(test)]
 mod tests;

@@ -4,4 +4,5 @@ pub mod AnswerLemmas
 pub mod OneLemmas
 pub mod WordLemmas
 pub mod PlainLemmas
+pub mod ImageLemmas
 pub mod OneShown

@@ -1,5 +1,6 @@
--- The text of a replay on one worker.
+-- The texts of a replay on one worker.
 use Rattle.std.proofs.Common.{ℕ, ◌≡◌, List, [], ◌++◌, map, ap, ◌∙◌}
+use Rattle.std.specs.Prelude.{slice_get}
 use Rattle.std.specs.List.{flat_map}
 use Rattle.zone_config.specs.declared.data.Config.{Config}
 use Rattle.replay_log.specs.declared.line.Line.{Line}
@@ -11,7 +12,8 @@ use Rattle.replay_share.specs.Share.{HasReplayed}
 use Rattle.replay_share.specs.Replay.{Decided, line_of, decision_of}
 use Rattle.replay_share.proofs.Alone.{pairs, plays_alone}
 use Rattle.replay_text.specs.ReplayText.{decided_line, zones_text}
-use Rattle.zonereplay.specs.Told.{ShowsReplay}
+use Rattle.replay_text.specs.Images.{ShowsWordsAt}
+use Rattle.zonereplay.specs.Told.{ShowsReplay, ShowsImage}
 
 pub shows_replay : (config : Config) (room : ℕ) (zones : List ZoneJournal) (lines : List Line) (decisions : List Decision) (decided_text text : List ℕ) → HasReplayed (Serves zones config.zones room) config lines decisions
     → ((decided : List Decided) → map line_of decided ≡ lines → map decision_of decided ≡ decisions → decided_text ≡ flat_map (decided_line config) decided)
@@ -23,4 +25,15 @@ shows_replay config room zones lines decisions decided_text text h first text_is
       logs = map log_of zones;
       played = plays_alone config room zones lines decisions pair h;
       text_is = text_is ∙ ap (λ (t : List ℕ). t ++ zones_text config.zones (map log_of zones)) (first pair.decided pair.lines_are pair.decisions_are);
+    }
+
+pub shows_image : (config : Config) (room : ℕ) (zones : List ZoneJournal) (zone : ℕ) (lines : List Line) (decisions : List Decision) (text : List ℕ) → HasReplayed (Serves zones config.zones room) config lines decisions
+    → ShowsWordsAt (slice_get config.zones zone) (slice_get (map log_of zones) zone) text → ShowsImage config zone lines text
+shows_image config room zones zone lines decisions text h shown =
+    let pair = pairs config nothing_active lines h.asked decisions h.table h.drives in
+    record {
+      decided = pair.decided;
+      logs = map log_of zones;
+      played = plays_alone config room zones lines decisions pair h;
+      shown = shown;
     }

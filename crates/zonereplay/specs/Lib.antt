@@ -4,6 +4,7 @@ pub mod Checking
 pub mod Statuses
 pub mod Stops
 pub mod Told
+pub mod Replays
 pub mod Plan
 pub mod Devices
 pub mod Answers

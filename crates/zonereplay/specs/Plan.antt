@@ -1,17 +1,19 @@
 -- What a command does, by its words and by the texts that it reads.
 use Rattle.std.specs.Prelude.{ℕ, ◌≡◌, nat_lt, List, length, Option, Some, None, Result, Ok, Err, if◌then◌else◌, ◌⊎◌}
+use Rattle.std.specs.List.{position}
 use Rattle.directive_text.specs.declared.tree.Directive.{Directive}
 use Rattle.directive_text.specs.Spelling.{Spells}
 use Rattle.directive_text.specs.Faults.{HasFault}
 use Rattle.zone_config.specs.declared.data.Config.{Config}
 use Rattle.config_rules.specs.Rules.{fault_of}
 use Rattle.zone_config.specs.Reading.{GivesConfig}
+use Rattle.zone_config.specs.Configuration.{is_zone_called}
 use Rattle.decision_text.specs.CheckText.{check_text}
 use Rattle.replay_log.specs.declared.keys.KeyLine.{KeyLine}
 use Rattle.zonereplay.specs.declared.stop.Refusal.{Refusal}
 use Rattle.zonereplay.specs.declared.stop.Refusal.TheVariants.{Usage, TooLong, Text, Rule, Log}
 use Rattle.zonereplay.specs.Words.{Command, OneJob, command_of}
-use Rattle.zonereplay.specs.Words.Command.{one, check, plain}
+use Rattle.zonereplay.specs.Words.Command.{one, check, plain, image}
 use Rattle.replay_log.specs.Lines.{Fault}
 use Rattle.replay_log.specs.Keys.{keys_of}
 use Rattle.replay_log.specs.Requests.{requests_of}
@@ -19,7 +21,7 @@ use Rattle.replay_log.specs.declared.line.Line.{Line}
 use Rattle.replay_share.specs.Opening.{refused_line}
 use Rattle.zonereplay.specs.OneText.{one_text}
 use Rattle.zonereplay.specs.Told.{Told}
-use Rattle.zonereplay.specs.Told.Told.{exactly, replay}
+use Rattle.zonereplay.specs.Told.Told.{exactly, replay, zone_words}
 
 -- the steps that are left
 pub data Plan : Type 0 where
@@ -95,18 +97,35 @@ check_run text = with_zones text (λ config. writes (exactly (check_text config)
 abbrev pub check_plan : List ℕ → Plan
 check_plan name = reads name (in_limit check_run)
 
--- the lines are replayed on one worker, or the log's first fault is told
-abbrev pub plain_run : Config → Result (List Line) Fault → Plan
-plain_run config (Ok lines) = writes (replay config 1 lines)
-plain_run config (Err fault) = refuses (Log fault.line fault.kind)
+-- what is told of the lines is written, or the log's first fault is told
+abbrev pub log_run : (List Line → Told) → Result (List Line) Fault → Plan
+log_run told (Ok lines) = writes (told lines)
+log_run told (Err fault) = refuses (Log fault.line fault.kind)
 
--- the log of this name is replayed in the zones of a configuration
+-- the log of this name is read with the locations of a configuration, and what is told of its lines is written
+abbrev pub log_plan : List ℕ → Config → (List Line → Told) → Plan
+log_plan log config told = reads log (in_limit (λ text. log_run told (requests_of config.locations text)))
+
+-- the log is replayed on one worker
 abbrev pub plain_log : List ℕ → Config → Plan
-plain_log log config = reads log (in_limit (λ text. plain_run config (requests_of config.locations text)))
+plain_log log config = log_plan log config (λ lines. replay config 1 lines)
 
 -- `plain CONFIG LOG`
 abbrev pub plain_plan : List ℕ → List ℕ → Plan
 plain_plan name log = reads name (in_limit (λ text. with_zones text (plain_log log)))
+
+-- what follows by the number of a zone; where there is no such zone, the configuration is refused
+abbrev pub with_zone : Option ℕ → (ℕ → Plan) → Plan
+with_zone None next = refuses (Rule 0 11)
+with_zone (Some zone) next = next zone
+
+-- the log is replayed on one worker, and the words of the zone of this name are written
+abbrev pub image_log : List ℕ → List ℕ → Config → Plan
+image_log log name config = with_zone (position (is_zone_called name) config.zones) (λ zone. log_plan log config (λ lines. zone_words config zone lines))
+
+-- `image CONFIG LOG ZONE`
+abbrev pub image_plan : List ℕ → List ℕ → List ℕ → Plan
+image_plan name log zone = reads name (in_limit (λ text. with_zones text (image_log log zone)))
 
 -- words of no form are refused
 abbrev pub plan_for : Option Command → Plan
@@ -114,6 +133,7 @@ plan_for None = refuses Usage
 plan_for (Some (one job log)) = one_plan job log
 plan_for (Some (check config)) = check_plan config
 plan_for (Some (plain config log)) = plain_plan config log
+plan_for (Some (image config log zone)) = image_plan config log zone
 
 abbrev pub plan_of : List (List ℕ) → Plan
 plan_of words = plan_for (command_of words)

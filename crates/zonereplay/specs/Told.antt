@@ -1,10 +1,11 @@
 -- What a command writes, as it was asked for.
-use Rattle.std.specs.Prelude.{ℕ, ◌≡◌, List}
+use Rattle.std.specs.Prelude.{ℕ, ◌≡◌, List, slice_get}
 use Rattle.zone_config.specs.declared.data.Config.{Config}
 use Rattle.replay_log.specs.declared.line.Line.{Line}
 use Rattle.replay_share.specs.Logs.{ZoneLog}
 use Rattle.replay_share.specs.Replay.{Decided, IsReplay}
 use Rattle.replay_text.specs.ReplayText.{replay_text}
+use Rattle.replay_text.specs.Images.{ShowsWordsAt}
 
 -- what was asked to be written
 pub data Told : Type 0 where
@@ -12,6 +13,8 @@ pub data Told : Type 0 where
   exactly : (text : List ℕ) → Told
   -- a replay of these lines by so many workers in the zones of a configuration
   replay : (config : Config) (workers : ℕ) (lines : List Line) → Told
+  -- the words of the zone of this number after a replay of these lines by one worker
+  zone_words : (config : Config) (zone : ℕ) (lines : List Line) → Told
 
 -- The text of a replay: what was decided of each line, and the history of each zone.
 pub record ShowsReplay (config : Config) (workers : ℕ) (lines : List Line) (text : List ℕ) : Type 0 where
@@ -20,7 +23,15 @@ pub record ShowsReplay (config : Config) (workers : ℕ) (lines : List Line) (te
   pub played : IsReplay config workers lines decided logs
   pub text_is : text ≡ replay_text config decided logs
 
+-- The text of a zone's words after a replay by one worker: they lay out the zone's state after its history.
+pub record ShowsImage (config : Config) (zone : ℕ) (lines : List Line) (text : List ℕ) : Type 0 where
+  pub decided : List Decided
+  pub logs : List ZoneLog
+  pub played : IsReplay config 1 lines decided logs
+  pub shown : ShowsWordsAt (slice_get config.zones zone) (slice_get logs zone) text
+
 -- whether a text shows what was asked; of what several texts show, any of them does
 abbrev pub Shows : Told → List ℕ → Type 0
 Shows (exactly asked) text = text ≡ asked
 Shows (replay config workers lines) text = ShowsReplay config workers lines text
+Shows (zone_words config zone lines) text = ShowsImage config zone lines text

@@ -63,6 +63,8 @@ pub data Command : Type 0 where
   check : (config : List ℕ) → Command
   -- a log of requests is replayed on one worker in the zones of a configuration, by their names
   plain : (config log : List ℕ) → Command
+  -- the same, and then the words of the zone of this name
+  image : (config log zone : List ℕ) → Command
 
 -- the job, where each of its numbers was read
 abbrev pub one_job : Option ℕ → Option ℕ → Option ℕ → List ℕ → Option Command
@@ -85,6 +87,11 @@ abbrev pub plain_of : List (List ℕ) → Option Command
 plain_of (command ∷ config ∷ log ∷ []) = if bytes_eq command (codes "plain") then Some (plain config log) else None
 plain_of words = None
 
+-- `image CONFIG LOG ZONE`
+abbrev pub image_of : List (List ℕ) → Option Command
+image_of (command ∷ config ∷ log ∷ zone ∷ []) = if bytes_eq command (codes "image") then Some (image config log zone) else None
+image_of words = None
+
 -- the first of two that is there
 abbrev pub first_form : Option Command → Option Command → Option Command
 first_form None second = second
@@ -92,4 +99,4 @@ first_form (Some command) second = Some command
 
 -- what the words ask for, none where they are of none of the forms that are built
 abbrev pub command_of : List (List ℕ) → Option Command
-command_of words = first_form (one_of words) (first_form (check_of words) (plain_of words))
+command_of words = first_form (one_of words) (first_form (check_of words) (first_form (plain_of words) (image_of words)))

@@ -1,16 +1,17 @@
 ghost use Rattle.std.specs.Prelude.{IsSome};
-ghost use Rattle.zonereplay.specs.Words.{one_of, check_of, plain_of};
+ghost use Rattle.zonereplay.specs.Words.{one_of, check_of, plain_of, image_of};
 ghost use Rattle.zonereplay.specs.Plan.{plan_of};
 ghost use Rattle.zonereplay.specs.Answers.{Does};
 ghost use Rattle.zonereplay.specs.Stages.{Concludes};
 
+use crate::image::prepare_image;
 use crate::output::write_lines;
 use crate::plain::prepare_plain;
 use crate::prepare::{prepare_check, prepare_one};
 use crate::status::Status;
 use crate::stop::Stop;
 use crate::tell::{tell_stop, tell_write_fault};
-use crate::words::{read_check, read_one, read_plain};
+use crate::words::{read_check, read_image, read_one, read_plain};
 use std::alloc::Global;
 use zone_outside::{Shelf, Sink, Text};
 
@@ -120,5 +121,35 @@ pub fn plain_command<F: Shelf, O: Sink, E: Sink>(
         unreachable!()
     };
     let prepared = prepare_plain(alloc, name, log, files);
+    conclude(alloc, prepared, out, err).code()
+}
+
+/// Replays a log of requests on one worker in the zones of a configuration, and writes the words of the zone of a name as
+/// they are then. The words are `image CONFIG LOG ZONE`.
+pub fn image_command<F: Shelf, O: Sink, E: Sink>(
+    alloc: Global,
+    words: &[Text],
+    files: &mut F,
+    out: &mut O,
+    err: &mut E,
+) -> u8
+    requires { IsSome (image_of words.now) }
+    ensures { Does (plan_of words.now)
+        (record {
+          files = record { contents = F.contents files.old; faults = F.faults files.old };
+          out = record { text = O.taken out.old; faults = O.faults out.old };
+          err = record { text = E.taken err.old; faults = E.faults err.old };
+        })
+        (record {
+          files = record { contents = F.contents files.new; faults = F.faults files.new };
+          out = record { text = O.taken out.new; faults = O.faults out.new };
+          err = record { text = E.taken err.new; faults = E.faults err.new };
+        })
+        result }
+{
+    let Some((name, log, zone)) = read_image(words) else {
+        unreachable!()
+    };
+    let prepared = prepare_image(alloc, name, log, zone, files);
     conclude(alloc, prepared, out, err).code()
 }

@@ -3,11 +3,13 @@
 
 mod close;
 mod commands;
+mod image;
 mod job;
 mod one;
 mod output;
 mod plain;
 mod prepare;
+mod replay;
 mod run;
 mod status;
 mod stop;

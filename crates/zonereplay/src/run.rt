@@ -3,10 +3,10 @@ ghost use Rattle.zonereplay.specs.Words.{command_of};
 ghost use Rattle.zonereplay.specs.Plan.{plan_of};
 ghost use Rattle.zonereplay.specs.Answers.{Does};
 
-use crate::commands::{check_command, one_command, plain_command};
+use crate::commands::{check_command, image_command, one_command, plain_command};
 use crate::stop::{Refusal, Stop};
 use crate::tell::tell_stop;
-use crate::words::{read_check, read_one, read_plain};
+use crate::words::{read_check, read_image, read_one, read_plain};
 use std::alloc::Global;
 use zone_outside::{Shelf, Sink, Text};
 
@@ -14,7 +14,7 @@ use zone_outside::{Shelf, Sink, Text};
 ///
 /// - 0: the job is done, and `out` took all its text.
 /// - 1: the words are none of the forms that are built. `err` has the usage line.
-/// - 2: the configuration has a fault. `err` has `config LINE text KIND` or `config LINE rule RULE`.
+/// - 2: the configuration has a fault, or no zone of the name that is asked for. `err` has `config LINE text KIND` or `config LINE rule RULE`.
 /// - 3: the log has a fault. `err` has `log LINE KIND`.
 /// - 4: a named file could not be opened or read. `err` has `read fault`.
 /// - 5: a write failed. `err` has `write fault`, if it takes that. After a failed write to `out`, `out`
@@ -55,7 +55,10 @@ pub fn run<R, F: Shelf, O: Sink, E: Sink>(
             Some(_) => check_command(alloc, words, files, out, err),
             None => match read_plain(words) {
                 Some(_) => plain_command(alloc, words, files, out, err),
-                None => tell_stop(alloc, err, Stop::Refused(Refusal::Usage)).code(),
+                None => match read_image(words) {
+                    Some(_) => image_command(alloc, words, files, out, err),
+                    None => tell_stop(alloc, err, Stop::Refused(Refusal::Usage)).code(),
+                },
             },
         },
     }

@@ -1,7 +1,7 @@
 ghost use Rattle.std.specs.Prelude.{◌≡◌, ◌≤◌, IfSome, MatchOption, Some, None};
 ghost use Rattle.req_zone.specs.Amount.{IsRate, greatest_burst};
-ghost use Rattle.zonereplay.specs.Words.{rate_of, burst_of, unit_of, size_of, one_of, check_of, plain_of};
-ghost use Rattle.zonereplay.specs.Words.Command.{one, check, plain};
+ghost use Rattle.zonereplay.specs.Words.{rate_of, burst_of, unit_of, size_of, one_of, check_of, plain_of, image_of};
+ghost use Rattle.zonereplay.specs.Words.Command.{one, check, plain, image};
 ghost use Rattle.zonereplay.specs.Jobs.{asked};
 
 use crate::job::Job;
@@ -89,4 +89,14 @@ pub(crate) fn read_plain(words: &[Text]) -> Option<(&Text, &Text)>
         return None;
     };
     (command.bytes() == b"plain".as_slice()).then_some((config, log))
+}
+
+/// What the words `image CONFIG LOG ZONE` ask for: the names of the configuration, of the log and of the zone.
+pub(crate) fn read_image(words: &[Text]) -> Option<(&Text, &Text, &Text)>
+    ensures { MatchOption result (image_of words.now ≡ None) (λ names. image_of words.now ≡ Some (image names.0.now names.1.now names.2.now)) }
+{
+    let [command, config, log, zone] = words else {
+        return None;
+    };
+    (command.bytes() == b"image".as_slice()).then_some((config, log, zone))
 }

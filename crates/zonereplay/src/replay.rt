@@ -1,0 +1,154 @@
+ghost use Rattle.std.specs.Prelude.{ℕ, ◌≡◌, ◌<◌, ◌≤◌, length, None, IfOk};
+ghost use Rattle.std.specs.List.{All};
+ghost use Rattle.zone_config.specs.Conditions.{IsConfig};
+ghost use Rattle.replay_log.specs.Limits.{IsLineOf};
+ghost use Rattle.replay_log.specs.Requests.{requests_of};
+ghost use Rattle.replay_share.specs.Journals.{Serves};
+ghost use Rattle.replay_share.specs.Opening.{refused_line};
+ghost use Rattle.replay_share.specs.Share.{HasReplayed};
+ghost use Rattle.zonereplay.specs.Told.{Shows, ShowsReplay, ShowsImage};
+ghost use Rattle.zonereplay.specs.Plan.{log_plan, log_run};
+ghost use Rattle.zonereplay.specs.Replays.{told_of, IsThere};
+ghost use Rattle.zonereplay.specs.Devices.{Files};
+ghost use Rattle.zonereplay.specs.Stages.{Prepares};
+
+use crate::prepare::read_text;
+use crate::stop::{Refusal, Stop};
+use replay_log::{Line, LogFault, read_log};
+use replay_share::{Journals, OpeningFault, replay_share};
+use replay_text::{push_decisions, push_zone_words, push_zones};
+use request_script::Decision;
+use std::alloc::Global;
+use zone_config::Config;
+use zone_outside::{NoMemory, Shelf, Text};
+
+/// The calls that a line makes to one zone at most.
+const CALLS_A_LINE: u32 = 3;
+
+/// What is written of a replay on one worker.
+#[derive(Clone, Copy, Debug)]
+pub(crate) enum Wanted {
+    /// What is decided of each line, and the history of each zone.
+    Histories,
+    /// The words of the zone of this number.
+    Words { zone: usize },
+}
+
+/// Replays the lines on one worker: the zones with their journals, and what is decided of each line.
+fn play(
+    alloc: Global,
+    config: &Config,
+    lines: &[Line],
+) -> Result<(Journals, Vec<Decision>), NoMemory>
+    requires config { IsConfig config.now }
+    requires given { refused_line config.now.zones ≡ None }
+    requires lines { All (IsLineOf (length config.now.locations)) lines.now }
+    requires few { length lines.now ≤ 131072 }
+    ensures { IfOk result (λ played. (room : ℕ) × HasReplayed (Serves played.0 config.now.zones room) config.now lines.now played.1.items) }
+{
+    let room = lines.len() as u32 * CALLS_A_LINE;
+    let mut zones = match Journals::open(alloc, config.zones.as_slice(), room) {
+        Ok(zones) => zones,
+        Err(OpeningFault::Refused { line: _ }) => unreachable!(),
+        Err(OpeningFault::NoMemory) => return Err(NoMemory),
+    };
+    let decisions = replay_share(alloc, config, lines, &mut zones)?;
+    Ok((zones, decisions))
+}
+
+/// The text of a replay on one worker: what is decided of each line, and the history of each zone.
+fn write_histories(alloc: Global, config: &Config, lines: &[Line]) -> Result<Text, NoMemory>
+    requires config { IsConfig config.now }
+    requires given { refused_line config.now.zones ≡ None }
+    requires lines { All (IsLineOf (length config.now.locations)) lines.now }
+    requires few { length lines.now ≤ 131072 }
+    ensures { IfOk result (λ text. ShowsReplay config.now 1 lines.now text) }
+{
+    let (zones, decisions) = play(alloc, config, lines)?;
+    let mut text = Vec::new(alloc);
+    push_decisions(&mut text, config, lines, &decisions)?;
+    push_zones(alloc, &mut text, config.zones.as_slice(), &zones)?;
+    Ok(Text::from_vec(text))
+}
+
+/// The text of the words of the zone of this number, after a replay on one worker.
+fn write_words(
+    alloc: Global,
+    config: &Config,
+    zone: usize,
+    lines: &[Line],
+) -> Result<Text, NoMemory>
+    requires config { IsConfig config.now }
+    requires given { refused_line config.now.zones ≡ None }
+    requires there { zone < length config.now.zones }
+    requires lines { All (IsLineOf (length config.now.locations)) lines.now }
+    requires few { length lines.now ≤ 131072 }
+    ensures { IfOk result (λ text. ShowsImage config.now zone lines.now text) }
+{
+    let (zones, _decisions) = play(alloc, config, lines)?;
+    let mut text = Vec::new(alloc);
+    push_zone_words(alloc, &mut text, config.zones.as_slice(), &zones, zone)?;
+    Ok(Text::from_vec(text))
+}
+
+/// The text that is wanted of a replay on one worker.
+fn write_wanted(
+    alloc: Global,
+    config: &Config,
+    wanted: Wanted,
+    lines: &[Line],
+) -> Result<Text, NoMemory>
+    requires config { IsConfig config.now }
+    requires given { refused_line config.now.zones ≡ None }
+    requires there { IsThere wanted config.now }
+    requires lines { All (IsLineOf (length config.now.locations)) lines.now }
+    requires few { length lines.now ≤ 131072 }
+    ensures { IfOk result (λ text. Shows (told_of wanted config.now lines.now) text) }
+{
+    match wanted {
+        Wanted::Histories => write_histories(alloc, config, lines),
+        Wanted::Words { zone } => write_words(alloc, config, zone, lines),
+    }
+}
+
+/// The text that is wanted of a log's text. It leaves the files alone, whatever they are.
+fn run_requests(alloc: Global, config: &Config, wanted: Wanted, text: &[u8]) -> Result<Text, Stop>
+    requires config { IsConfig config.now }
+    requires given { refused_line config.now.zones ≡ None }
+    requires there { IsThere wanted config.now }
+    ensures { (files : Files) → Prepares (log_run (told_of wanted config.now) (requests_of config.now.locations text.now)) files files result }
+{
+    let lines = match read_log(alloc, text, config) {
+        Ok(lines) => lines,
+        Err(LogFault::At { line, kind }) => {
+            return Err(Stop::Refused(Refusal::Log { line, kind }));
+        }
+        Err(LogFault::NoMemory) => return Err(Stop::NoMemory),
+    };
+    match write_wanted(alloc, config, wanted, &lines) {
+        Ok(written) => Ok(written),
+        Err(_) => Err(Stop::NoMemory),
+    }
+}
+
+/// The text that is wanted of the log of this name.
+pub(crate) fn read_requests<F: Shelf>(
+    alloc: Global,
+    config: &Config,
+    wanted: Wanted,
+    log: &Text,
+    files: &mut F,
+) -> Result<Text, Stop>
+    requires config { IsConfig config.now }
+    requires given { refused_line config.now.zones ≡ None }
+    requires there { IsThere wanted config.now }
+    ensures { Prepares (log_plan log.now config.now (told_of wanted config.now))
+        (record { contents = F.contents files.old; faults = F.faults files.old })
+        (record { contents = F.contents files.new; faults = F.faults files.new })
+        result }
+{
+    match read_text(alloc, files, log) {
+        Ok(text) => run_requests(alloc, config, wanted, &text),
+        Err(stop) => Err(stop),
+    }
+}
