@@ -21,7 +21,7 @@ use Rattle.zonereplay.specs.declared.stop.Refusal.{Refusal}
 use Rattle.zonereplay.specs.declared.stop.Refusal.TheVariants.{TooLong}
 use Rattle.zonereplay.specs.Told.{Told, Shows}
 use Rattle.zonereplay.specs.Told.Told.{replay}
-use Rattle.zonereplay.specs.Plan.{Plan, SaysConfig, Ends, MayHold, text_limit, in_limit, unless_refused, with_zones, plain_run, plain_log, plain_plan}
+use Rattle.zonereplay.specs.Plan.{Plan, SaysConfig, Ends, MayHold, text_limit, in_limit, unless_refused, with_zones, log_run, plain_log, plain_plan}
 use Rattle.zonereplay.specs.Plan.Plan.{refuses, reads}
 use Rattle.zonereplay.specs.Plan.End.{refused, written}
 use Rattle.zonereplay.specs.OneShown.{OneShown, SomeShown, OnePlain}
@@ -96,7 +96,7 @@ module _ (contents : List ℕ → Option (List ℕ)) (told : Told) where
   told-same other is = cc
 
   -- and tells the replay of the lines that were read
-  run_end : (config : Config) (read : Result (List Line) Fault) → Ends contents (plain_run config read) (written told) → (lines : List Line) × (read ≡ Ok lines) × (told ≡ replay config 1 lines)
+  run_end : (config : Config) (read : Result (List Line) Fault) → Ends contents (log_run (λ (lines : List Line). replay config 1 lines) read) (written told) → (lines : List Line) × (read ≡ Ok lines) × (told ≡ replay config 1 lines)
   run_end config (Ok lines) h = (lines, refl, told-same (replay config 1 lines) h)
   run_end config (Err fault) h = absurd (not_refused told _ h)
 
@@ -112,7 +112,7 @@ plain_told : (contents : List ℕ → Option (List ℕ)) (told : Told) (name log
 plain_told contents told name log given lines name_is log_is h =
     let first = config_end contents told given (plain_log log) (read_end contents told name given (λ (text : List ℕ). with_zones text (plain_log log)) name_is h) in
     let config = first.0 in
-    let second = run_end contents told config (requests_of config.locations lines) (read_end contents told log lines (λ (text : List ℕ). plain_run config (requests_of config.locations text)) log_is first.2) in
+    let second = run_end contents told config (requests_of config.locations lines) (read_end contents told log lines (λ (text : List ℕ). log_run (λ (requests : List Line). replay config 1 requests) (requests_of config.locations text)) log_is first.2) in
     record { config = config; said = first.1; requests = second.0; read = second.1; told_is = second.2 }
 
 -- ---- `plain`
