@@ -13,6 +13,7 @@ use Rattle.slab_model.specs.declared.shape.Shape.{Shape}
 use Rattle.slab_model.specs.Geometry.{shape_of}
 use Rattle.slab_model.specs.State.{Slab, fresh_slab}
 use Rattle.slab_model.specs.Grant.{grant}
+use Rattle.slab_model.proofs.ShapeLemmas.{grant_shape}
 use Rattle.slab_pages.specs.Places.{Image, log_ctx_word, data_word}
 use Rattle.slab_pool.specs.Pool.{LaysPool}
 use Rattle.slab_pool.specs.Live.{block_words, rest_of}
@@ -27,7 +28,6 @@ use Rattle.conn_zone.specs.Laws.{Opens}
 use Rattle.conn_zone.specs.Layout.{LaysNode, LaysFrom, name_bytes, tree_at}
 use Rattle.conn_zone.specs.Changes.{IsFresh}
 use Rattle.conn_zone.specs.Proving.Fresh.{open-law}
-use Rattle.conn_zone.specs.Proving.Blocks.{grant_shape}
 
 -- ---- the two grants
 

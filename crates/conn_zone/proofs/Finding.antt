@@ -9,6 +9,7 @@ use Rattle.zone_region.specs.Words.{Words}
 use Rattle.zone_region.specs.Members.{In}
 use Rattle.zone_region.proofs.MembersLemmas.{same_length}
 use Rattle.offset_tree.specs.Keys.{Rank, rank_of}
+use Rattle.slab_model.proofs.LiveLemmas.{once_here, live_most}
 use Rattle.conn_zone.specs.declared.state.ConnEntry.{ConnEntry}
 use Rattle.conn_zone.specs.declared.state.ConnState.{ConnState}
 use Rattle.conn_zone.specs.Table.{has_key, is_at, entry_of, entry_at, replace_first}
@@ -16,8 +17,7 @@ use Rattle.conn_zone.specs.Object.{once_at}
 use Rattle.conn_zone.specs.Holding.{entries_of, nodes_at, named_at, IsWhole}
 use Rattle.conn_zone.specs.Layout.{LaysNode, LaysEntries, LaysBlocks, tree_at}
 use Rattle.conn_zone.specs.Changes.{IsFound}
-use Rattle.conn_zone.specs.Proving.Tables.{some_same, found_passes, found_all, none_weighs, replaced_sum, node_weight, key_weight, nodes_more, keys_more, missing_none, same_key, same_block, once_here}
-use Rattle.conn_zone.specs.Proving.Blocks.{live_most}
+use Rattle.conn_zone.specs.Proving.Tables.{some_same, found_passes, found_all, none_weighs, replaced_sum, node_weight, key_weight, nodes_more, keys_more, missing_none, same_key, same_block}
 use Rattle.conn_zone.proofs.Weights.{own_key}
 use Rattle.conn_zone.proofs.Named.{in_nodes, nodes_in, whole-law}
 use Rattle.conn_zone.proofs.NodeWords.{node_rank}

@@ -15,6 +15,7 @@ use Rattle.slab_model.specs.State.{Slab}
 use Rattle.slab_model.specs.Grant.{grant}
 use Rattle.slab_model.specs.Return.{give_back}
 use Rattle.slab_model.proofs.BlockLaws.{grant-grants}
+use Rattle.slab_model.proofs.LiveLemmas.{once_here, once_there, live_none}
 use Rattle.slab_pages.specs.Places.{Image}
 use Rattle.slab_pool.specs.Pool.{LaysPool}
 use Rattle.slab_pool.specs.Live.{block_words}
@@ -31,8 +32,7 @@ use Rattle.conn_zone.specs.Object.{once_at}
 use Rattle.conn_zone.specs.Holding.{nodes_at, named_at, IsWhole}
 use Rattle.conn_zone.specs.Layout.{count_in, front_in, Recounts, LaysNode, LaysContext, LaysEntries, LaysBlocks, tree_at}
 use Rattle.conn_zone.specs.Changes.{WritesNode}
-use Rattle.conn_zone.specs.Proving.Tables.{found_passes, found_all, replaced_sum, node_weight, sum_one, same_block, once_here, once_there, each_named}
-use Rattle.conn_zone.specs.Proving.Blocks.{live_none}
+use Rattle.conn_zone.specs.Proving.Tables.{found_passes, found_all, replaced_sum, node_weight, sum_one, same_block, each_named}
 use Rattle.conn_zone.specs.Proving.Wholes.{changed}
 use Rattle.conn_zone.proofs.Named.{in_nodes, nodes_in}
 use Rattle.conn_zone.proofs.NodeWords.{node_rank, node_kept, node_same, node_recounted}

@@ -2,14 +2,14 @@
 use Rattle.std.proofs.Common.{ℕ, ◌≡◌, ◌+◌, ◌<◌, ◌≤◌, List, [], ◌∷◌, map, Option, Some, None, refl, ap, ◌∙◌, inl, inr, arith}
 use Rattle.std.proofs.lemmas.Bool.{cases_eq}
 use Rattle.zone_region.specs.Members.{In, IsDistinct}
+use Rattle.slab_model.proofs.LiveLemmas.{once_here, once_there, live_some, live_most, is_live}
 use Rattle.conn_zone.specs.declared.state.ConnEntry.{ConnEntry}
 use Rattle.conn_zone.specs.declared.state.ConnState.{ConnState}
 use Rattle.conn_zone.specs.Table.{is_at, entry_at}
 use Rattle.conn_zone.specs.Object.{once_at, count_at}
 use Rattle.conn_zone.specs.Holding.{nodes_at, named_at}
 use Rattle.conn_zone.specs.Laws.{blocks_of, WholeLaw, HasCount, CountedEntryLaw}
-use Rattle.conn_zone.specs.Proving.Tables.{found_passes, missing_count, same_block, once_here, once_there, nodes_more}
-use Rattle.conn_zone.specs.Proving.Blocks.{live_some, live_most, is_live}
+use Rattle.conn_zone.specs.Proving.Tables.{found_passes, missing_count, same_block, nodes_more}
 use Rattle.conn_zone.proofs.Weights.{own_sum}
 
 -- how often a number stands in a list

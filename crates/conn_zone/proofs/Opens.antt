@@ -6,6 +6,7 @@ use Rattle.std.proofs.lemmas.List.Sums.{sum_by-cons}
 use Rattle.slab_model.specs.State.{Slab}
 use Rattle.slab_model.specs.Grant.{grant}
 use Rattle.slab_model.specs.Store.{slab_store}
+use Rattle.slab_model.proofs.LiveLemmas.{live_most}
 use Rattle.conn_zone.specs.declared.state.ConnEntry.{ConnEntry}
 use Rattle.conn_zone.specs.declared.state.ConnState.{ConnState}
 use Rattle.conn_zone.specs.declared.calls.ConnReply.{ConnReply}
@@ -17,7 +18,6 @@ use Rattle.conn_zone.specs.Object.{parts_of, with_parts}
 use Rattle.conn_zone.specs.Holding.{nodes_at, IsWhole}
 use Rattle.conn_zone.specs.Laws.{connections, opened_by, OpenCountsLaw, HasOpened, OpenedLaw, nodes_of, EvictsNothingLaw}
 use Rattle.conn_zone.specs.Proving.Tables.{found_passes, replaced_sum, sum_one, same_key}
-use Rattle.conn_zone.specs.Proving.Blocks.{live_most}
 use Rattle.conn_zone.specs.Proving.Wholes.{whole_counted}
 use Rattle.conn_zone.specs.Proving.Steps.{found_as, missing_as}
 use Rattle.conn_zone.proofs.Weights.{own_weight, own_key, one_more, own_connections, no_connections, same_nodes, replaced_found, found_at_block}

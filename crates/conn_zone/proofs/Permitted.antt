@@ -1,11 +1,11 @@
 -- A close that is permitted.
 use Rattle.std.proofs.Common.{ℕ, ◌≡◌, List, [], ◌∷◌, sym, subst, arith}
 use Rattle.zone_object.specs.History.{entry, own}
+use Rattle.slab_model.proofs.LiveLemmas.{once_here}
 use Rattle.conn_zone.specs.declared.calls.ConnCall.TheVariants.{Open, Close}
 use Rattle.conn_zone.specs.declared.calls.ConnReply.{ConnReply}
 use Rattle.conn_zone.specs.declared.calls.ConnReply.TheVariants.{Opened}
 use Rattle.conn_zone.specs.Object.{Made, Permits}
-use Rattle.conn_zone.specs.Proving.Tables.{once_here}
 
 -- after two opens, of which the first caller's was counted, that caller may close it
 pub may_close : {X : Type 0} (log : List (Made X)) (key other : List ℕ) (first second : ConnReply) (at count : ℕ) → log ≡ entry 0 (Open key 1) first ∷ entry 1 (Open other 1) second ∷ [] → first ≡ Opened at count → Permits (own log 0) (Close at)

@@ -4,12 +4,13 @@ use Rattle.std.specs.Prelude.{find, sum_by}
 use Rattle.std.specs.Str.{bytes_eq}
 use Rattle.std.proofs.lemmas.Bool.{eq-eqb, ne_eqb}
 use Rattle.std.proofs.lemmas.Slice.Eq.{bytes_eq-Decides}
+use Rattle.slab_model.proofs.LiveLemmas.{once_here}
 use Rattle.conn_zone.specs.declared.state.ConnEntry.{ConnEntry}
 use Rattle.conn_zone.specs.Object.{once_at}
 use Rattle.conn_zone.specs.Table.{has_key, is_at, entry_of, entry_at, with_count, replace_first}
 use Rattle.conn_zone.specs.Holding.{entries_of, nodes_at}
 use Rattle.conn_zone.specs.Laws.{connections, nodes_of}
-use Rattle.conn_zone.specs.Proving.Tables.{some_same, found_passes, none_weighs, replaced_sum, node_weight, nodes_more, once_here}
+use Rattle.conn_zone.specs.Proving.Tables.{some_same, found_passes, none_weighs, replaced_sum, node_weight, nodes_more}
 
 abbrev pub own_weight : List ℕ → ConnEntry → ℕ
 own_weight key entry = cond (has_key key entry) entry.count 0

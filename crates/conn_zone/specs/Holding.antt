@@ -1,6 +1,7 @@
 -- What calls of a connection zone carry along a history.
-use Rattle.std.specs.Prelude.{◌≡◌, ℕ, ◌+◌, ◌≤◌, nat_lt, List, length, sum_by, if◌then◌else◌}
+use Rattle.std.specs.Prelude.{◌≡◌, ℕ, ◌+◌, ◌≤◌, List, length, sum_by, if◌then◌else◌}
 use Rattle.std.specs.List.{All}
+pub use Rattle.slab_model.specs.Blocks.{live_at}
 use Rattle.slab_model.specs.Blocks.{live_bytes}
 use Rattle.slab_model.specs.Grant.{block_bytes}
 use Rattle.slab_model.specs.Soundness.{IsSound}
@@ -22,10 +23,6 @@ nodes_at at table = sum_by (λ (entry : ConnEntry). once_at at entry.block) tabl
 -- how often `at` is a block of the zone: that of its context, that of its name, that of an entry
 abbrev pub named_at : ConnState → ℕ → ℕ
 named_at s at = once_at at s.context + once_at at s.name_block + nodes_at at s.table
-
--- once if a live block begins at `at`
-abbrev pub live_at : Slab → ℕ → ℕ
-live_at slab at = if nat_lt 0 (live_bytes slab at) then 1 else 0
 
 -- the block of an entry was granted for its node
 abbrev pub HasNode : Slab → ConnEntry → Type 0

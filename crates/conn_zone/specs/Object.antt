@@ -2,6 +2,7 @@
 use Rattle.std.specs.Prelude.{◌≡◌, ℕ, ◌+◌, ◌*◌, ◌<◌, ◌≤◌, nat_eq, List, [], length, sum_by, Option, unwrap_or, if◌then◌else◌}
 use Rattle.std.specs.List.{All}
 use Rattle.zone_object.specs.declared.object.Entry.{Entry}
+pub use Rattle.slab_model.specs.Blocks.{once_at}
 use Rattle.slab_model.specs.State.{Slab, fresh_slab}
 use Rattle.slab_model.specs.Geometry.{IsInLimits, shape_of}
 use Rattle.slab_model.specs.Grant.{grant}
@@ -88,10 +89,6 @@ greatest_limit = 65535
 -- at least one connection, and at most as many as the greatest limit
 abbrev pub IsCount : ℕ → Type 0
 IsCount count = (0 < count) × (count ≤ greatest_limit)
-
--- once if the block is this one
-abbrev pub once_at : ℕ → ℕ → ℕ
-once_at at block = if nat_eq block at then 1 else 0
 
 -- the connections on the entry of block `at` that a reply gives
 abbrev pub given_by : ℕ → ConnReply → ℕ

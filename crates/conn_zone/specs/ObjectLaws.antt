@@ -9,13 +9,13 @@ use Rattle.zone_object.specs.Fair.{GivesBackOwn}
 use Rattle.zone_object.specs.Carried.{MayFollow, Carries}
 use Rattle.zone_object.proofs.Fair.{sum-snoc, held-law}
 use Rattle.zone_object.proofs.Carried.{carried-ready, carried-holds}
+use Rattle.slab_model.proofs.LiveLemmas.{once_here, once_there}
 use Rattle.conn_zone.specs.declared.state.ConnEntry.{ConnEntry}
 use Rattle.conn_zone.specs.declared.state.ConnState.{ConnState}
 use Rattle.conn_zone.specs.declared.calls.ConnCall.{ConnCall}
 use Rattle.conn_zone.specs.declared.calls.ConnCall.TheVariants.{Open, Close}
 use Rattle.conn_zone.specs.Object.{Made, IsOpened, answer_of, zone_after, IsCount, once_at, given, back, back_by, count_at, Permits, Ready, CanAnswer}
 use Rattle.conn_zone.specs.Holding.{IsEntry, Holds}
-use Rattle.conn_zone.specs.Proving.Tables.{once_here, once_there}
 use Rattle.conn_zone.specs.Proving.Fresh.{opened_whole, opened_empty, opened_same}
 use Rattle.conn_zone.specs.Proving.Steps.{moves, answers}
 

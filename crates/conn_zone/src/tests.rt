@@ -3,6 +3,7 @@ ghost use Rattle.conn_zone.specs.Object.{IsKey};
 
 use crate::{ConnCall, ConnReply, ConnSpec, ConnZone, OpenFault};
 use std::alloc::Global;
+use std::process::Abort;
 use std::test::Fail;
 use zone_key::Key;
 use zone_object::{Journal, ZoneView};
@@ -113,6 +114,106 @@ fn rows_of_a_full_zone(rt: HostRuntime) -> Result<(), Fail> {
         assert_eq!(rt; reply == ConnReply::NoRoom, n == 383, "at {n}");
     }
     assert_eq!(rt; journal.object().entry_count(), 383);
+    Ok(())
+}
+
+/// The words of an empty zone `c` of 32,768 bytes that aren't 0.
+const EMPTY: [(u64, u64); 42] = [
+    (2, 8),
+    (3, 3),
+    (4, 704),
+    (5, 872),
+    (7, 752),
+    (9, 416),
+    (10, 5),
+    (11, 4096),
+    (12, 32_768),
+    (20, 8224),
+    (23, 4096),
+    // the heads of the classes
+    (26, 200),
+    (29, 224),
+    (32, 728),
+    (35, 704),
+    (38, 296),
+    (41, 320),
+    (44, 344),
+    (47, 368),
+    (50, 392),
+    // the statistics of the classes of 32 and 64 bytes
+    (60, 127),
+    (61, 1),
+    (62, 1),
+    (64, 64),
+    (65, 1),
+    (66, 1),
+    // the descriptors of their pages, and of the free run
+    (88, 1),
+    (89, 272),
+    (90, 274),
+    (91, 5),
+    (92, 248),
+    (93, 251),
+    (94, 5),
+    (95, 48),
+    (96, 48),
+    (108, 752),
+    // the context: the root, and the sentinel's offset
+    (512, 4120),
+    (513, 4120),
+    // the bits of the name's page, and the name
+    (1024, 3),
+    (1028, 0x696d_696c_206e_6920),
+    (1029, 0x7a5f_6e6e_6f63_5f74),
+    (1030, 0x0022_6322_2065_6e6f),
+];
+
+/// The words that differ with one connection of the key `123456789`.
+const OPENED: [(u64, u64); 9] = [
+    // one block of 64 bytes more
+    (65, 2),
+    (66, 2),
+    (88, 3),
+    // the root
+    (512, 4160),
+    // the node
+    (520, 0xcbf4_3926),
+    (521, 4120),
+    (522, 4120),
+    (524, 0x3433_3231_0001_0900),
+    (525, 0x39_3837_3635),
+];
+
+/// The value of a word in such a list.
+fn listed(list: &[(u64, u64)], word: u64) -> Option<u64> {
+    for (at, value) in list {
+        if *at == word {
+            return Some(*value);
+        }
+    }
+    None
+}
+
+/// Compares all words of a zone with those of the empty zone and these changes.
+fn compare(rt: &impl Abort, zone: &ConnZone, changes: &[(u64, u64)]) {
+    let words = zone.words();
+    assert!(rt; words == 4096);
+    for word in 0..words {
+        let empty = listed(&EMPTY, word).unwrap_or(0);
+        let want = listed(changes, word).unwrap_or(empty);
+        assert_eq!(rt; zone.word_at(word), want, "word {word}");
+    }
+}
+
+#[test]
+fn words_of_a_zone(rt: HostRuntime) -> Result<(), Fail> {
+    let alloc = rt.alloc();
+    let mut journal = small_zone(alloc, 1)?;
+    compare(&rt, journal.object(), &[]);
+    let key = Key::of(alloc, b"123456789")?;
+    let reply = journal.call(0, ConnCall::Open { key, limit: 1 });
+    assert_eq!(rt; reply, ConnReply::Opened { at: 4160, count: 1 });
+    compare(&rt, journal.object(), &OPENED);
     Ok(())
 }
 

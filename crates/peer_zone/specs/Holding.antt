@@ -1,7 +1,8 @@
 -- What calls of an upstream's zone carry along a history.
-use Rattle.std.specs.Prelude.{◌≡◌, ℕ, ◌+◌, ◌*◌, ◌^◌, ◌<◌, ◌≤◌, ℤ, pos, neg_ℤ, ◌+ℤ◌, ◌≤ℤ◌, nat_eq, nat_lt, List, [], ◌∷◌, length, take, drop, slice_index, sum_by, if◌then◌else◌}
+use Rattle.std.specs.Prelude.{◌≡◌, ℕ, ◌+◌, ◌*◌, ◌^◌, ◌<◌, ◌≤◌, ℤ, pos, neg_ℤ, ◌+ℤ◌, ◌≤ℤ◌, nat_eq, List, [], ◌∷◌, length, take, drop, slice_index, sum_by, if◌then◌else◌}
 use Rattle.std.specs.List.{All, AllZip}
 use Rattle.slab_model.specs.State.{Slab}
+pub use Rattle.slab_model.specs.Blocks.{live_at}
 use Rattle.slab_model.specs.Blocks.{live_bytes}
 use Rattle.slab_model.specs.Grant.{block_bytes}
 use Rattle.slab_model.specs.Soundness.{IsSound}
@@ -13,10 +14,6 @@ use Rattle.peer_zone.specs.Opening.{Request, context_size, name_size, list_size,
 -- how often `at` is one of these blocks
 abbrev pub named_at : List ℕ → ℕ → ℕ
 named_at blocks at = sum_by (λ block. if nat_eq block at then 1 else 0) blocks
-
--- once if a live block begins at `at`
-abbrev pub live_at : Slab → ℕ → ℕ
-live_at slab at = if nat_lt 0 (live_bytes slab at) then 1 else 0
 
 -- the block was granted for the request
 abbrev pub IsGranted : Slab → Request → ℕ → Type 0

@@ -1,8 +1,4 @@
 pub mod ExpiryLemmas
-pub mod FrontLemmas
-pub mod GeometryLemmas
-pub mod MissingLemmas
-pub mod FoundLemmas
 pub mod ByteLemmas
 pub mod NodeLemmas
 pub mod ZoneLemmas

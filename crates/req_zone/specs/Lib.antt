@@ -5,9 +5,7 @@ pub mod Table
 pub mod State
 pub mod Expiry
 pub mod Step
-pub mod Counted
 pub mod Opening
-pub mod Leaving
 pub mod Object
 pub mod Holding
 pub mod Laws

@@ -2,6 +2,7 @@
 use Rattle.std.specs.Prelude.{◌≡◌, ℕ, ◌+◌, ◌*◌, ◌^◌, ◌<◌, ◌≤◌, Bool, true, false, nat_eq, List, [], length, sum_by, Option, unwrap_or, if◌then◌else◌}
 use Rattle.std.specs.List.{All}
 use Rattle.zone_object.specs.declared.object.Entry.{Entry}
+pub use Rattle.slab_model.specs.Blocks.{once_at}
 use Rattle.slab_model.specs.State.{Slab, fresh_slab}
 use Rattle.slab_model.specs.Geometry.{IsInLimits, shape_of}
 use Rattle.slab_model.specs.Grant.{grant}
@@ -90,10 +91,6 @@ pub record IsAsked (key : List ℕ) (now burst : ℕ) : Type 0 where
   pub named : IsKey key
   pub early : IsMoment now
   pub small : burst ≤ greatest_burst
-
--- once if the block is this one
-abbrev pub once_at : ℕ → ℕ → ℕ
-once_at at block = if nat_eq block at then 1 else 0
 
 -- the holds on the entry of block `at` that a reply gives
 abbrev pub given_by : ℕ → ReqReply → ℕ

@@ -99,13 +99,3 @@ step memory rate state (Account at now) =
     (Accounted amount, record { table = change_at at (λ (entry : ReqEntry). with_count (entry.count - 1) (stored amount now entry)) state.table; memory = state.memory })
 step memory rate state (Release at) =
     (Released, record { table = change_at at (λ (entry : ReqEntry). with_count (entry.count - 1) entry) state.table; memory = state.memory })
-
--- the replies of a list of calls, in order
-abbrev pub replies_of : {S : Type 0} → BlockStore S → ℕ → State S → List ReqCall → List ReqReply
-replies_of memory rate state [] = []
-replies_of memory rate state (call ∷ calls) = (step memory rate state call).0 ∷ replies_of memory rate (step memory rate state call).1 calls
-
--- the state after a list of calls
-abbrev pub state_after : {S : Type 0} → BlockStore S → ℕ → State S → List ReqCall → State S
-state_after memory rate state [] = state
-state_after memory rate state (call ∷ calls) = state_after memory rate (step memory rate state call).1 calls

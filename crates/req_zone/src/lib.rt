@@ -5,22 +5,18 @@
 mod calls;
 mod check;
 mod errors;
-mod node;
 mod nodes;
 mod numbers;
 mod object;
 mod opening;
-mod placed;
 mod rules;
 mod state;
-mod table;
 pub mod theorems;
 mod words;
 
 pub use calls::{ReqCall, ReqReply, ReqSpec};
 pub use errors::OpenFault;
 pub use object::ReqZone;
-pub use placed::PlacedZone;
 pub use rules::{Allowed, amount, delay};
 pub use state::{ReqEntry, ReqState};
 

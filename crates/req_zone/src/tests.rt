@@ -1,42 +1,58 @@
+ghost use Rattle.std.specs.Prelude.{◌≡◌, ◌+◌, ◌<◌, [], length, IfOk};
+
 use crate::ReqReply::{Busy, Pass};
-use crate::{Allowed, OpenFault, PlacedZone, ReqReply, ReqSpec, amount, delay};
+use crate::{Allowed, OpenFault, ReqCall, ReqReply, ReqSpec, ReqZone, amount, delay};
 use std::alloc::Global;
 use std::process::Abort;
 use std::test::Fail;
 use zone_key::Key;
+use zone_object::{Journal, ZoneView};
 use zone_outside::Text;
 
-/// What `open` answers for a zone of this rate and size.
-fn opened(
+/// A zone `one` of this rate and of 32,768 bytes, with an empty journal.
+fn small_zone(
     rt: &impl Abort,
     alloc: Global,
     rate: u64,
-    bytes: u64,
-) -> Result<Result<PlacedZone, OpenFault>, Fail> {
-    let name = Text::of(alloc, b"one")?;
-    assert!(rt; name.bytes().len() == 3);
-    assert!(rt; rate >= 1 && rate <= 1_000_000_000 && bytes <= 67_108_864);
+    room: u32,
+) -> Result<Journal<ReqZone>, Fail>
+    ensures { IfOk result (λ journal. (journal.room ≡ room) × (journal.log ≡ [])) }
+{
+    assert!(rt; rate >= 1 && rate <= 1_000_000_000);
     let spec = ReqSpec {
-        name,
-        bytes,
+        name: Text::of(alloc, b"one")?,
+        bytes: 32_768,
         page_shift: 12,
         rate,
     };
-    Ok(PlacedZone::open(alloc, &spec))
+    let zone = ReqZone::open(alloc, &spec)?;
+    Ok(Journal::new(alloc, zone, room)?)
 }
 
-/// What a check of a key answers.
+/// What a check of a key by the last limit of a request is answered.
 fn checked(
     rt: &impl Abort,
-    alloc: Global,
-    zone: &mut PlacedZone,
-    key: &[u8],
+    journal: &mut Journal<ReqZone>,
+    key: Key,
     now: u64,
     burst: u64,
-) -> Result<ReqReply, Fail> {
-    assert!(rt; !key.is_empty() && key.len() <= 48);
+) -> ReqReply
+    requires { length journal.old.log < journal.old.room }
+    ensures room { journal.new.room ≡ journal.old.room }
+    ensures log { length journal.new.log ≡ length journal.old.log + 1 }
+{
+    let long = key.bytes().len();
+    assert!(rt; long > 0 && long < 65_536);
     assert!(rt; now < 1 << 42 && burst <= 1_000_000_000);
-    Ok(zone.check_last(Key::of(alloc, key)?, now, burst)?)
+    journal.call(
+        0,
+        ReqCall::Check {
+            key,
+            now,
+            burst,
+            last: true,
+        },
+    )
 }
 
 /// Checks in a fresh zone of 8 pages, each with the reply that is wanted.
@@ -146,66 +162,161 @@ const CASES: [Case; 9] = [
     },
 ];
 
+/// Makes the checks of a case.
+fn run(rt: &impl Abort, alloc: Global, case: &Case) -> Result<(), Fail> {
+    let calls = case.calls;
+    assert!(rt; calls.len() < 100);
+    let mut journal = small_zone(rt, alloc, case.rate, calls.len() as u32)?;
+    for (now, key, want) in calls {
+        let key = Key::of(alloc, key)?;
+        let reply = checked(rt, &mut journal, key, *now, case.burst);
+        assert_eq!(rt; reply, *want, "at {now}");
+    }
+    Ok(())
+}
+
 #[test]
 fn small_zones(rt: HostRuntime) -> Result<(), Fail> {
     for case in &CASES {
-        let mut zone = opened(&rt, rt.alloc(), case.rate, 32_768)??;
-        for (now, key, want) in case.calls {
-            let reply = checked(&rt, rt.alloc(), &mut zone, key, *now, case.burst)?;
-            assert_eq!(rt; reply, *want, "at {now}");
+        run(&rt, rt.alloc(), case)?;
+    }
+    Ok(())
+}
+
+/// The words of an empty zone `one` of 32,768 bytes that aren't 0.
+const EMPTY: [(u64, u64); 44] = [
+    (2, 8),
+    (3, 3),
+    (4, 0x2c0),
+    (5, 0x368),
+    (7, 0x2f0),
+    (9, 0x1a0),
+    (10, 5),
+    (11, 0x1000),
+    (12, 0x8000),
+    (20, 0x2020),
+    (23, 0x1000),
+    // the heads of the classes
+    (26, 0xc8),
+    (29, 0xe0),
+    (32, 0x2d8),
+    (35, 0x110),
+    (38, 0x2c0),
+    (41, 0x140),
+    (44, 0x158),
+    (47, 0x170),
+    (50, 0x188),
+    // the statistics of the classes of 32 and 128 bytes
+    (60, 0x7f),
+    (61, 1),
+    (62, 1),
+    (68, 0x20),
+    (69, 1),
+    (70, 1),
+    // the descriptors of their pages, and of the free run
+    (88, 0x1_0000_0007),
+    (89, 0x128),
+    (90, 0x129),
+    (91, 5),
+    (92, 0xf8),
+    (93, 0xfb),
+    (94, 5),
+    (95, 0x30),
+    (96, 0x30),
+    (108, 0x2f0),
+    // the context: the root, the sentinel's offset, and the queue's head
+    (512, 0x1018),
+    (513, 0x1018),
+    (520, 0x1040),
+    (521, 0x1040),
+    // the bits of the name's page, and the name
+    (1024, 3),
+    (1028, 0x696d_696c_206e_6920),
+    (1029, 0x6f7a_2071_6572_5f74),
+    (1030, 0x2265_6e6f_2220_656e),
+];
+
+/// The words that differ after one check of the key `123456789` at moment 5, by the last limit.
+const CHECKED: [(u64, u64); 15] = [
+    // one block of 128 bytes more
+    (69, 2),
+    (70, 2),
+    (88, 0x3_0000_0007),
+    // the root, and both ends of the queue
+    (512, 0x1080),
+    (520, 0x10a8),
+    (521, 0x10a8),
+    // the node
+    (528, 0xcbf4_3926),
+    (529, 0x1018),
+    (530, 0x1018),
+    (532, 0x9_0000),
+    (533, 0x1040),
+    (534, 0x1040),
+    (535, 5),
+    (538, 0x3837_3635_3433_3231),
+    (539, 0x39),
+];
+
+/// The value of a word in such a list.
+fn listed(list: &[(u64, u64)], word: u64) -> Option<u64> {
+    for (at, value) in list {
+        if *at == word {
+            return Some(*value);
         }
     }
-    Ok(())
+    None
 }
 
-/// A new key in a full zone takes the place of the oldest one.
-fn fills(rt: &impl Abort, alloc: Global, bytes: u64, capacity: u32) -> Result<(), Fail> {
-    let mut zone = opened(rt, alloc, 1000, bytes)??;
-    for i in 0..capacity {
-        assert_eq!(rt;
-            checked(rt, alloc, &mut zone, &i.to_be_bytes(), 0, 0)?,
-            Pass { excess: 0 }
-        );
+/// Compares all words of a zone with those of the empty zone and these changes.
+fn compare(rt: &impl Abort, zone: &ReqZone, changes: &[(u64, u64)]) {
+    let words = zone.words();
+    assert!(rt; words == 4096);
+    for word in 0..words {
+        let empty = listed(&EMPTY, word).unwrap_or(0);
+        let want = listed(changes, word).unwrap_or(empty);
+        assert_eq!(rt; zone.word_at(word), want, "word {word}");
     }
+}
+
+#[test]
+fn words_of_a_zone(rt: HostRuntime) -> Result<(), Fail> {
+    let alloc = rt.alloc();
+    let mut journal = small_zone(&rt, alloc, 1000, 1)?;
+    compare(&rt, journal.object(), &[]);
+    let key = Key::of(alloc, b"123456789")?;
+    assert_eq!(rt; checked(&rt, &mut journal, key, 5, 0), Pass { excess: 0 });
+    let zone = journal.object();
+    compare(&rt, zone, &CHECKED);
     assert_eq!(rt;
-        checked(rt, alloc, &mut zone, &capacity.to_be_bytes(), 0, 0)?,
-        Pass { excess: 0 }
+        (zone.page_count(), zone.free_count(), zone.entry_count()),
+        (7, 5, 1)
     );
     assert_eq!(rt;
-        checked(rt, alloc, &mut zone, &1u32.to_be_bytes(), 0, 0)?,
-        Busy { excess: 1000 }
-    );
-    assert_eq!(rt;
-        checked(rt, alloc, &mut zone, &0u32.to_be_bytes(), 0, 0)?,
-        Pass { excess: 0 }
-    );
-    assert_eq!(rt;
-        checked(rt, alloc, &mut zone, &2u32.to_be_bytes(), 0, 0)?,
-        Pass { excess: 0 }
+        (
+            zone.stat_of(4).used,
+            zone.stat_of(4).reqs,
+            zone.stat_of(9).total
+        ),
+        (2, 2, 0)
     );
     Ok(())
 }
 
 #[test]
-fn fills_a_megabyte(rt: HostRuntime) -> Result<(), Fail> {
-    fills(&rt, rt.alloc(), 1_048_576, 8095)
+fn too_small(rt: HostRuntime) -> Result<(), Fail> {
+    let spec = ReqSpec {
+        name: Text::of(rt.alloc(), b"one")?,
+        bytes: 32_767,
+        page_shift: 12,
+        rate: 1000,
+    };
+    assert!(rt; matches!(ReqZone::open(rt.alloc(), &spec), Err(OpenFault::TooSmall)));
+    Ok(())
 }
 
 #[test]
-fn sizes_and_floods(rt: HostRuntime) -> Result<(), Fail> {
-    assert!(rt;
-        matches!(
-            opened(&rt, rt.alloc(), 1000, 32_767)?,
-            Err(OpenFault::TooSmall)
-        )
-    );
-    fills(&rt, rt.alloc(), 32_768, 191)?;
-    let mut zone = opened(&rt, rt.alloc(), 1_000_000_000, 32_768)??;
-    for _ in 0..500 {
-        checked(&rt, rt.alloc(), &mut zone, b"a", 0, 1_000_000)?;
-    }
-    let reply = checked(&rt, rt.alloc(), &mut zone, b"a", 18_446_744_074, 1_000_000)?;
-    assert_eq!(rt; reply, Pass { excess: 0 });
+fn amounts_and_delays(rt: HostRuntime) {
     assert_eq!(rt; amount(1000, 500, 0, 250), 1250);
     assert_eq!(rt; amount(1000, 0, 0, 5000), 0);
     assert_eq!(rt; amount(1000, 5, 60_000, 0), 1005);
@@ -215,5 +326,4 @@ fn sizes_and_floods(rt: HostRuntime) -> Result<(), Fail> {
     assert_eq!(rt; delay(2499, Allowed::Never, 1000), 0);
     assert_eq!(rt; delay(1000, Allowed::Above { excess: 0 }, 16), 62_500);
     assert_eq!(rt; delay(1000, Allowed::Above { excess: 0 }, 16_666), 60);
-    Ok(())
 }

@@ -1,13 +1,13 @@
 -- Tables in which an entry is found and replaced.
-use Rattle.std.proofs.Common.{ℕ, ◌≡◌, ◌+◌, ◌<◌, Bool, true, false, cond, eqb, List, [], ◌∷◌, ◌++◌, length, get_or, Some, None, refl, sym, ap, subst, arith, rules}
+use Rattle.std.proofs.Common.{ℕ, ◌≡◌, ◌+◌, ◌<◌, Bool, true, false, cond, eqb, List, [], ◌∷◌, ◌++◌, length, get_or, Some, None, refl, ap, subst, arith, rules}
 use Rattle.std.specs.Prelude.{find}
 use Rattle.std.specs.List.{All, sum_by}
 use Rattle.std.specs.Str.{bytes_eq}
-use Rattle.std.proofs.lemmas.Bool.{eq-eqb, ne_eqb}
 use Rattle.std.proofs.lemmas.Grind.{common_steps}
 use Rattle.std.proofs.lemmas.List.Sums.{sum_by-cons, sum_by-append, get_or-le-sum_by}
 use Rattle.std.proofs.lemmas.List.Elements.{All-cons, All-head, All-tail, All-append}
 use Rattle.std.proofs.lemmas.Slice.Eq.{bytes_eq-Decides}
+use Rattle.slab_model.proofs.LiveLemmas.{once_here}
 use Rattle.conn_zone.specs.declared.state.ConnEntry.{ConnEntry}
 use Rattle.conn_zone.specs.Table.{has_key, is_at, entry_of, entry_at, replace_first}
 use Rattle.conn_zone.specs.Object.{count_at, once_at}
@@ -105,12 +105,6 @@ same_key key other is = search (rules, bytes_eq-Decides)
 
 pub same_block : (at : ℕ) (e : ConnEntry) → is_at at e ≡ true → e.block ≡ at
 same_block at e is = grind (arith, common_steps)
-
-pub once_here : (at : ℕ) → once_at at at ≡ 1
-once_here at = let h : eqb at at ≡ true = eq-eqb at at refl in ap (λ (b : Bool). cond b 1 0) h
-
-pub once_there : (at block : ℕ) → (at ≡ block → ⊥) → once_at at block ≡ 0
-once_there at block ne = let h : eqb block at ≡ false = ne_eqb block at (λ e. ne (sym e)) in ap (λ (b : Bool). cond b 1 0) h
 
 -- each entry of a table is one of its nodes
 pub each_named : (table : List ConnEntry) (i : ℕ) (d : ConnEntry) → i < length table → 0 < nodes_at (get_or table i d).block table

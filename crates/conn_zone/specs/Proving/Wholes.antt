@@ -9,14 +9,15 @@ use Rattle.slab_model.specs.Grant.{grant, block_bytes}
 use Rattle.slab_model.specs.Return.{give_back}
 use Rattle.slab_model.proofs.Laws.{grant-sound, give_back-sound}
 use Rattle.slab_model.proofs.BlockLaws.{grant-grants, grant-none, give_back-returns}
+use Rattle.slab_model.proofs.ShapeLemmas.{grant_shape, back_shape, bytes_same}
+use Rattle.slab_model.proofs.LiveLemmas.{once_here, live_none, live_same, is_live, granted_live, returned_live}
 use Rattle.conn_zone.specs.declared.state.ConnEntry.{ConnEntry}
 use Rattle.conn_zone.specs.declared.state.ConnState.{ConnState}
 use Rattle.conn_zone.specs.Table.{has_key, is_at, entry_of, entry_at, with_count, replace_first}
 use Rattle.conn_zone.specs.Step.{node_size, new_entry}
 use Rattle.conn_zone.specs.Object.{with_parts, once_at, context_size, name_size}
 use Rattle.conn_zone.specs.Holding.{entries_of, nodes_at, named_at, live_at, HasNode, IsWhole}
-use Rattle.conn_zone.specs.Proving.Tables.{found_passes, found_all, replaced_sum, replaced_all, node_weight, key_weight, nodes_more, keys_more, sum_one, missing_none, same_key, same_block, once_here, each_named}
-use Rattle.conn_zone.specs.Proving.Blocks.{grant_shape, back_shape, bytes_same, live_none, live_same, is_live, granted_live, returned_live}
+use Rattle.conn_zone.specs.Proving.Tables.{found_passes, found_all, replaced_sum, replaced_all, node_weight, key_weight, nodes_more, keys_more, sum_one, missing_none, same_key, same_block, each_named}
 
 no_entry : ConnEntry
 no_entry = record { key = []; block = 0; count = 0 }

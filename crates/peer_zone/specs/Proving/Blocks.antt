@@ -1,18 +1,17 @@
 -- The blocks of a zone that was just opened.
-use Rattle.std.proofs.Common.{ℕ, ◌≡◌, ◌≢◌, ◌+◌, ◌*◌, ◌<◌, Bool, true, false, cond, eqb, ltb, List, [], ◌∷◌, ◌++◌, length, Option, Some, None, refl, sym, ap, subst, ◌∙◌, inl, inr, arith}
+use Rattle.std.proofs.Common.{ℕ, ◌≡◌, ◌+◌, ◌<◌, cond, eqb, List, [], ◌∷◌, ◌++◌, length, Option, Some, None, refl, sym, ap, subst, ◌∙◌, inl, inr, arith}
 use Rattle.std.specs.List.{All, AllZip}
-use Rattle.std.proofs.lemmas.Bool.{cases_eq, lt-ltb}
-use Rattle.std.proofs.lemmas.Bool.Decides.{nat_tests}
+use Rattle.std.proofs.lemmas.Bool.{cases_eq}
 use Rattle.std.proofs.lemmas.List.Sums.{sum_by-cons}
 use Rattle.std.proofs.lemmas.List.Elements.{All-cons, All-nil, All-head, All-tail}
 use Rattle.slab_model.specs.declared.shape.Shape.{Shape}
-use Rattle.slab_model.specs.Geometry.{page_size, class_of, pages_for}
-use Rattle.slab_model.specs.Runs.{first_fit}
-use Rattle.slab_model.specs.State.{Slab, list_of}
+use Rattle.slab_model.specs.State.{Slab}
 use Rattle.slab_model.specs.Blocks.{live_bytes}
-use Rattle.slab_model.specs.Grant.{grant, grant_as, grant_run, grant_from_list, grant_in_new_page, block_bytes, block_bytes_as}
+use Rattle.slab_model.specs.Grant.{grant}
 use Rattle.slab_model.specs.Soundness.{IsSound}
 use Rattle.slab_model.proofs.Laws.{grant-sound}
+use Rattle.slab_model.proofs.ShapeLemmas.{grant_shape, bytes_same}
+use Rattle.slab_model.proofs.LiveLemmas.{once_here, once_there, live_some, live_none, live_same}
 use Rattle.slab_model.proofs.BlockLaws.{grant-grants, fresh-law}
 use Rattle.peer_zone.specs.declared.calls.Server.{Server}
 use Rattle.peer_zone.specs.declared.calls.PeerSpec.{PeerSpec}
@@ -20,27 +19,7 @@ use Rattle.peer_zone.specs.declared.state.PeerState.{PeerState}
 use Rattle.peer_zone.specs.Opening.{Request, Granted, besides, context_size, name_size, list_size, record_size, record_requests, backup_requests, first_granted, grant_all, pool_of, requests_of, grants_of, spec_of, IsSpec, IsOpened}
 use Rattle.peer_zone.specs.Holding.{named_at, live_at, IsGranted, AreWhole, IsWhole}
 
--- ---- a grant keeps the shape
-
-shape-new_page : (slab : Slab) (class : ℕ) (fit : Option ℕ) → (grant_in_new_page slab class fit).1.shape ≡ slab.shape
-shape-new_page slab class None = refl
-shape-new_page slab class (Some page) = refl
-
-shape-from_list : (slab : Slab) (class : ℕ) (listed : List ℕ) → (grant_from_list slab class listed).1.shape ≡ slab.shape
-shape-from_list slab class [] = shape-new_page slab class (first_fit 1 slab.runs)
-shape-from_list slab class (page ∷ rest) = refl
-
-shape-run : (slab : Slab) (count : ℕ) (fit : Option ℕ) → (grant_run slab count fit).1.shape ≡ slab.shape
-shape-run slab count None = refl
-shape-run slab count (Some page) = refl
-
-shape-as : (slab : Slab) (size : ℕ) (class : Option ℕ) → (grant_as slab size class).1.shape ≡ slab.shape
-shape-as slab size None = shape-run slab (pages_for slab.shape size) (first_fit (pages_for slab.shape size) slab.runs)
-shape-as slab size (Some class) = shape-from_list slab class (list_of slab class)
-
-pub shape-grant : (slab : Slab) (size : ℕ) → (grant slab size).1.shape ≡ slab.shape
-unfolding grant
-shape-grant slab size = shape-as slab size (class_of slab.shape size)
+-- ---- grants keep the shape
 
 shape-first : (request : Request) (slab : Slab) (at : Option ℕ) (later : Granted) (shape : Shape) → slab.shape ≡ shape → later.slab.shape ≡ shape → (first_granted request slab at later).slab.shape ≡ shape
 shape-first request slab None later shape here rest = here
@@ -50,37 +29,13 @@ pub shape-all : (slab : Slab) (requests : List Request) → (grant_all slab requ
 shape-all slab [] = refl
 shape-all slab (request ∷ requests) =
     let granted = grant slab request.size in
-    shape-first request granted.1 granted.0 (grant_all granted.1 requests) slab.shape (shape-grant slab request.size) (shape-all granted.1 requests ∙ shape-grant slab request.size)
-
--- and with it the bytes of what a request is given
-bytes-as : (old new : Slab) (size : ℕ) → new.shape ≡ old.shape → (class : Option ℕ) → block_bytes_as new size class ≡ block_bytes_as old size class
-bytes-as old new size same None = ap (λ (t : Shape). page_size t * pages_for t size) same
-bytes-as old new size same (Some class) = refl
-
-bytes-same : (old new : Slab) (size : ℕ) → new.shape ≡ old.shape → block_bytes new size ≡ block_bytes old size
-unfolding block_bytes
-bytes-same old new size same = ap (λ (t : Shape). block_bytes_as new size (class_of t size)) same ∙ bytes-as old new size same (class_of old.shape size)
+    shape-first request granted.1 granted.0 (grant_all granted.1 requests) slab.shape (grant_shape slab request.size) (shape-all granted.1 requests ∙ grant_shape slab request.size)
 
 -- ---- live blocks
-
-live-some : (slab : Slab) (at : ℕ) → 0 < live_bytes slab at → live_at slab at ≡ 1
-live-some slab at live = ap (λ (b : Bool). cond {A = ℕ} b 1 0) (lt-ltb 0 (live_bytes slab at) live)
-
-live-none : (slab : Slab) (at : ℕ) → live_bytes slab at ≡ 0 → live_at slab at ≡ 0
-live-none slab at none = ap (λ n. cond {A = ℕ} (ltb 0 n) 1 0) none
-
-live-same : (old new : Slab) (at : ℕ) → live_bytes new at ≡ live_bytes old at → live_at new at ≡ live_at old at
-live-same old new at same = ap (λ n. cond {A = ℕ} (ltb 0 n) 1 0) same
 
 -- what is named before other blocks
 pub named-more : (block : ℕ) (blocks : List ℕ) (at : ℕ) → named_at (block ∷ blocks) at ≡ cond (eqb block at) 1 0 + named_at blocks at
 named-more block blocks at = sum_by-cons (λ n. cond {A = ℕ} (eqb n at) 1 0) block blocks
-
-named-here : (at : ℕ) → cond {A = ℕ} (eqb at at) 1 0 ≡ 1
-named-here at = let e : eqb at at ≡ true = grind (arith, nat_tests) in rw e refl
-
-named-there : (block at : ℕ) → block ≢ at → cond {A = ℕ} (eqb block at) 1 0 ≡ 0
-named-there block at other = let e : eqb block at ≡ false = grind (arith, nat_tests) in rw e refl
 
 -- what is granted on top of a slab's live blocks
 record Adds (slab : Slab) (requests : List Request) (g : Granted) : Type 0 where
@@ -102,17 +57,17 @@ adds-one slab request requests at later sound some given shape rest =
       sound = rest.sound;
       named = λ other. elim (cases_eq at other) [
         | inl same ↦
-            let one : cond {A = ℕ} (eqb at other) 1 0 ≡ 1 = ap (λ n. cond {A = ℕ} (eqb at n) 1 0) (sym same) ∙ named-here at in
-            let was = live-none slab other (ap (λ n. live_bytes slab n) (sym same) ∙ g.0.fresh) in
-            let now = live-some new other (subst (λ n. 0 < live_bytes new n) same live) in
+            let one : cond {A = ℕ} (eqb at other) 1 0 ≡ 1 = ap (λ n. cond {A = ℕ} (eqb at n) 1 0) (sym same) ∙ once_here at in
+            let was = live_none slab other (ap (λ n. live_bytes slab n) (sym same) ∙ g.0.fresh) in
+            let now = live_some new other (subst (λ n. 0 < live_bytes new n) same live) in
             omega (arith, named-more at later.blocks other, one, was, now, rest.named other)
         | inr ne ↦
-            let none = named-there at other ne in
-            let stays = live-same slab new other (g.0.others other (λ e. ne (sym e))) in
+            let none : cond {A = ℕ} (eqb at other) 1 0 ≡ 0 = once_there other at (λ e. ne (sym e)) in
+            let stays = live_same slab new other (g.0.others other (λ e. ne (sym e))) in
             omega (arith, named-more at later.blocks other, none, stays, rest.named other)
       ];
       kept = λ other was. let stays = g.0.others other (λ e. let gone = ap (λ n. live_bytes slab n) e ∙ g.0.fresh in absurd (omega (arith, was, gone))) in rest.kept other (let s = stays in omega (arith, s, was)) ∙ stays;
-      granted = (rest.kept at live ∙ g.0.bytes ∙ sym (bytes-same slab later.slab request.size shape), rest.granted);
+      granted = (rest.kept at live ∙ g.0.bytes ∙ sym (bytes_same slab later.slab request.size shape), rest.granted);
     }
 
 adds-first : (slab : Slab) (request : Request) (requests : List Request) (at : Option ℕ) (later : Granted) → IsSound slab → IsAsking request → (grant slab request.size).0 ≡ at → later.slab.shape ≡ slab.shape → (later.refused ≡ None → Adds (grant slab request.size).1 requests later) → (first_granted request (grant slab request.size).1 at later).refused ≡ None → Adds slab (request ∷ requests) (first_granted request (grant slab request.size).1 at later)
@@ -125,7 +80,7 @@ adds-all slab (request ∷ requests) sound some all =
     let granted = grant slab request.size in
     let asks = All-head IsAsking request requests some in
     let sound_then = grant-sound slab request.size sound asks in
-    adds-first slab request requests granted.0 (grant_all granted.1 requests) sound asks refl (shape-all granted.1 requests ∙ shape-grant slab request.size) (adds-all granted.1 requests sound_then (All-tail IsAsking request requests some)) all
+    adds-first slab request requests granted.0 (grant_all granted.1 requests) sound asks refl (shape-all granted.1 requests ∙ grant_shape slab request.size) (adds-all granted.1 requests sound_then (All-tail IsAsking request requests some)) all
 
 -- ---- an opened zone is whole
 
@@ -153,7 +108,7 @@ whole-grants : (spec : PeerSpec) → IsSpec spec → (grants_of spec).refused �
 whole-grants spec is all =
     let fresh = fresh-law (record { bytes = spec.bytes; page_shift = spec.page_shift }) is.limits in
     let adds = adds-all (pool_of spec) (requests_of spec) fresh.0 (asking-all spec) all in
-    record { sound = adds.sound; named = λ at. let none = live-none (pool_of spec) at (fresh.1 at) in omega (arith, none, adds.named at); granted = adds.granted }
+    record { sound = adds.sound; named = λ at. let none = live_none (pool_of spec) at (fresh.1 at) in omega (arith, none, adds.named at); granted = adds.granted }
 
 pub opened-whole : (s : PeerState) → IsOpened s → IsWhole s
 opened-whole s o = subst (λ (t : PeerState). AreWhole t.slab (requests_of (spec_of s)) t.blocks) (sym o.fresh) (whole-grants (spec_of s) o.spec o.given)

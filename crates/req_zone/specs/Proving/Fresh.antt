@@ -1,69 +1,22 @@
 -- A zone that was just opened.
-use Rattle.std.proofs.Common.{ℕ, ◌≡◌, ◌<◌, ◌≤◌, Bool, true, false, cond, leb, List, [], ◌∷◌, not, Option, Some, None, unwrap_or, refl, sym, ap, subst, ◌∙◌, inl, inr, arith}
-use Rattle.std.specs.Prelude.{is_some}
-use Rattle.std.proofs.lemmas.Bool.{cases_eq, leb-false, or_right}
+use Rattle.std.proofs.Common.{ℕ, ◌≡◌, ◌<◌, List, [], Option, Some, unwrap_or, refl, sym, ap, subst, ◌∙◌, inl, inr, arith}
+use Rattle.std.proofs.lemmas.Bool.{cases_eq}
 use Rattle.std.proofs.lemmas.List.Elements.{All-nil}
-use Rattle.slab_model.specs.declared.runs.Run.{Run}
 use Rattle.slab_model.specs.declared.shape.Shape.{Shape}
-use Rattle.slab_model.specs.Geometry.{IsInLimits, shape_of, most_pages, start_of, pages_of, class_of}
-use Rattle.slab_model.specs.Runs.{first_fit, page_total}
-use Rattle.slab_model.specs.State.{Slab, fresh_slab, list_of}
+use Rattle.slab_model.specs.Geometry.{IsInLimits, shape_of}
+use Rattle.slab_model.specs.State.{fresh_slab}
 use Rattle.slab_model.specs.Blocks.{live_bytes}
-use Rattle.slab_model.specs.Counting.{free_pages}
-use Rattle.slab_model.specs.Grant.{grant, fits, fits_as, is_empty}
-use Rattle.slab_model.specs.Laws.{pages_taken, pages_taken_as}
-use Rattle.slab_model.proofs.Laws.{grant-sound, fits-grant}
+use Rattle.slab_model.proofs.Laws.{grant-sound}
 use Rattle.slab_model.proofs.BlockLaws.{fresh-law, grant-grants}
-use Rattle.slab_model.proofs.CountLaws.{grant_pages-law}
-use Rattle.slab_model.proofs.ClassLemmas.{class_of-none}
+use Rattle.slab_model.proofs.SmallGrants.{given_small, pages_two, fresh_free}
+use Rattle.slab_model.proofs.ShapeLemmas.{grant_shape, bytes_same}
+use Rattle.slab_model.proofs.LiveLemmas.{once_here, once_there, live_some, live_none, live_same}
 use Rattle.req_zone.specs.declared.state.ReqState.{ReqState}
 use Rattle.req_zone.specs.Object.{context_size, name_size, with_context, with_name, opened_zone, IsName, once_at}
 use Rattle.req_zone.specs.Laws.{OpenLaw, StartLaw}
 use Rattle.req_zone.specs.Holding.{HasNode, IsWhole}
-use Rattle.req_zone.specs.Proving.Tables.{once_here, once_there}
-use Rattle.req_zone.specs.Proving.Blocks.{grant_shape, bytes_same, live_some, live_none, live_same}
-
--- ---- a slab with a free page gives a block of each class
-
-first_some : (runs : List Run) → 0 < page_total runs → is_some (first_fit 1 runs) ≡ true
-first_some [] h = let none : page_total [] ≡ 0 = refl in absurd (omega (arith, h, none))
-first_some (run ∷ runs) h = go (leb 1 run.pages) refl (λ k. first_some runs k) where
-  go : (b : Bool) → leb 1 run.pages ≡ b → (0 < page_total runs → is_some (first_fit 1 runs) ≡ true) → is_some (cond b (Some run.first) (first_fit 1 runs)) ≡ true
-  go true is rest = refl
-  go false is rest = let few = leb-false 1 run.pages is in rest (omega (arith, few, h))
-
-fits_free : (slab : Slab) (size : ℕ) → size ≤ 2048 → 0 < free_pages slab → fits slab size ≡ true
-unfolding fits
-fits_free slab size small some = go (class_of slab.shape size) refl where
-  go : (class : Option ℕ) → class_of slab.shape size ≡ class → fits_as slab size class ≡ true
-  go None is = let large = class_of-none slab.shape size is in absurd (omega (arith, small, large))
-  go (Some class) is = or_right (not (is_empty (list_of slab class))) (is_some (first_fit 1 slab.runs)) (first_some slab.runs some)
-
-some_of : (o : Option ℕ) → is_some o ≡ true → (x : ℕ) × (o ≡ Some x)
-some_of None is = absurd (cc)
-some_of (Some x) is = (x, refl)
-
-gives : (slab : Slab) (size : ℕ) → size ≤ 2048 → 0 < free_pages slab → (at : ℕ) × ((grant slab size).0 ≡ Some at)
-gives slab size small some = some_of (grant slab size).0 (sym (fits-grant slab size) ∙ fits_free slab size small some)
-
-taken_le : (slab : Slab) (size : ℕ) → size ≤ 2048 → pages_taken slab size ≤ 1
-taken_le slab size small = go (class_of slab.shape size) refl where
-  one : (b : Bool) → cond b 1 0 ≤ 1
-  one true = omega arith
-  one false = omega arith
-
-  go : (class : Option ℕ) → class_of slab.shape size ≡ class → pages_taken_as slab size class ≤ 1
-  go None is = let large = class_of-none slab.shape size is in absurd (omega (arith, small, large))
-  go (Some class) is = one (is_empty (list_of slab class))
 
 -- ---- the two grants of a fresh zone
-
-two_pages : (bytes : ℕ) → IsInLimits (shape_of bytes) → 2 ≤ pages_of (shape_of bytes)
-unfolding pages_of start_of most_pages
-two_pages bytes limits = let large = limits.large in let small = limits.small in omega (arith, large, small)
-
-fresh_pages : (bytes : ℕ) → free_pages (fresh_slab (shape_of bytes)) ≡ pages_of (shape_of bytes)
-fresh_pages bytes = omega arith
 
 -- the blocks of the context and of the name
 pub record Given (bytes : ℕ) (name : List ℕ) (context name_block : ℕ) : Type 0 where
@@ -72,15 +25,12 @@ pub record Given (bytes : ℕ) (name : List ℕ) (context name_block : ℕ) : Ty
 
 pub opens : (bytes : ℕ) (name : List ℕ) → IsName name → IsInLimits (shape_of bytes) → (context name_block : ℕ) × Given bytes name context name_block
 opens bytes name ok limits =
-    let two = two_pages bytes limits in
-    let all = fresh_pages bytes in
-    let fresh = fresh_slab (shape_of bytes) in
-    let first = gives fresh context_size (omega arith) (omega (arith, two, all)) in
-    let left = grant_pages-law fresh context_size first.0 first.1 in
-    let few = taken_le fresh context_size (omega arith) in
-    let short : name_size name ≤ 2048 = omega (arith, ok.1) in
-    let second = gives (with_context bytes).1 (name_size name) short (omega (arith, two, all, left, few)) in
-    (first.0, second.0, record { first = first.1; second = second.1 })
+    let two = pages_two bytes limits in
+    let all = fresh_free bytes in
+    let first = given_small (fresh_slab (shape_of bytes)) context_size (omega arith) (omega (arith, two, all)) in
+    let free = first.free in
+    let second = given_small (with_context bytes).1 (name_size name) (omega (arith, ok.1)) (omega (arith, two, all, free)) in
+    (first.at, second.at, record { first = first.block; second = second.block })
 
 -- the zone with these blocks
 zone_of : ℕ → List ℕ → ℕ → ℕ → ℕ → ReqState

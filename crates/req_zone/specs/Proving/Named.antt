@@ -7,6 +7,7 @@ use Rattle.slab_model.specs.State.{Slab}
 use Rattle.slab_model.specs.Blocks.{live_bytes}
 use Rattle.slab_model.specs.Grant.{block_bytes, block_bytes_as}
 use Rattle.slab_model.proofs.ClassLemmas.{class_of-some, pages_for-holds}
+use Rattle.slab_model.proofs.LiveLemmas.{once_here, once_there, live_some, live_most, is_live}
 use Rattle.req_zone.specs.Step.{node_size}
 use Rattle.zone_region.specs.Members.{In, IsDistinct}
 use Rattle.req_zone.specs.declared.state.ReqEntry.{ReqEntry}
@@ -14,8 +15,7 @@ use Rattle.req_zone.specs.declared.state.ReqState.{ReqState}
 use Rattle.req_zone.specs.Object.{context_size, name_size, once_at, holds_at}
 use Rattle.req_zone.specs.Holding.{nodes_at, named_at, HasNode}
 use Rattle.req_zone.specs.Laws.{SpaceLaw, IsHeldBy, HeldEntryLaw, blocks_of, WholeLaw}
-use Rattle.req_zone.specs.Proving.Tables.{once_here, once_there, nodes_more, holds_more}
-use Rattle.req_zone.specs.Proving.Blocks.{live_some, live_most, is_live}
+use Rattle.req_zone.specs.Proving.Tables.{nodes_more, holds_more}
 use Rattle.req_zone.specs.Proving.Steps.{unnamed}
 
 -- how often a number stands in a list

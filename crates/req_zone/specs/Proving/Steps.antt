@@ -10,6 +10,7 @@ use Rattle.std.proofs.lemmas.List.Sums.{sum_by-take-le}
 use Rattle.slab_model.specs.Blocks.{live_bytes}
 use Rattle.slab_model.specs.Grant.{grant, block_bytes}
 use Rattle.slab_model.specs.Store.{slab_store}
+use Rattle.slab_model.proofs.LiveLemmas.{live_most}
 use Rattle.req_zone.specs.declared.state.ReqEntry.{ReqEntry}
 use Rattle.req_zone.specs.declared.state.ReqState.{ReqState}
 use Rattle.req_zone.specs.declared.calls.ReqCall.{ReqCall}
@@ -24,7 +25,6 @@ use Rattle.req_zone.specs.Object.{parts_of, with_parts, answer_of, zone_after, I
 use Rattle.req_zone.specs.Holding.{entries_of, nodes_at, HasNode, IsWhole, IsWithin}
 use Rattle.req_zone.specs.Proving.Tables.{some_same, found_permutes, missing_none, holds_permute, nodes_permute, keys_permute, holds_more, nodes_more, keys_more}
 use Rattle.req_zone.specs.Proving.Expired.{IsFree, first_within, forced_within, first_free, forced_free}
-use Rattle.req_zone.specs.Proving.Blocks.{live_most}
 use Rattle.req_zone.specs.Proving.Wholes.{changed, whole_evict, evict_holds, whole_new, whole_none, whole_table}
 
 -- ---- what is no call's doing, and what is

@@ -6,11 +6,12 @@ use Rattle.std.proofs.lemmas.List.Sums.{sum_by-cons, sum_by-append, get_or-le-su
 use Rattle.std.proofs.lemmas.List.Sorted.{IsPermutation-remove, IsPermutation-append_right, IsPermutation-reverse, sum_by-IsPermutation}
 use Rattle.std.proofs.lemmas.Option.{slice_get-get_or, slice_get_past}
 use Rattle.std.proofs.lemmas.Slice.Eq.{bytes_eq-Decides}
-use Rattle.std.proofs.lemmas.Bool.{cases_lt, eq-eqb, ne_eqb}
+use Rattle.std.proofs.lemmas.Bool.{cases_lt}
 use Rattle.std.proofs.lemmas.Grind.{common_steps}
 use Rattle.std.specs.List.{position_or_len}
 use Rattle.std.specs.List.Sorted.{IsPermutation}
 use Rattle.std.specs.Str.{bytes_eq}
+use Rattle.slab_model.proofs.LiveLemmas.{once_here}
 use Rattle.req_zone.specs.declared.state.ReqEntry.{ReqEntry}
 use Rattle.req_zone.specs.Table.{has_key, entry_of, others}
 use Rattle.req_zone.specs.Expiry.{without_oldest}
@@ -93,12 +94,6 @@ nodes_join at xs ys = sum_by-append (λ (entry : ReqEntry). once_at at entry.blo
 
 pub keys_join : (key : List ℕ) (xs ys : List ReqEntry) → entries_of key (xs ++ ys) ≡ entries_of key xs + entries_of key ys
 keys_join key xs ys = sum_by-append (λ (entry : ReqEntry). cond (has_key key entry) 1 0) xs ys
-
-pub once_here : (at : ℕ) → once_at at at ≡ 1
-once_here at = let h : eqb at at ≡ true = eq-eqb at at refl in ap (λ (b : Bool). cond b 1 0) h
-
-pub once_there : (at block : ℕ) → (at ≡ block → ⊥) → once_at at block ≡ 0
-once_there at block ne = let h : eqb block at ≡ false = ne_eqb block at (λ e. ne (sym e)) in ap (λ (b : Bool). cond b 1 0) h
 
 -- each entry of a table is one of its nodes
 pub each_named : (table : List ReqEntry) (i : ℕ) (d : ReqEntry) → i < length table → 0 < nodes_at (get_or table i d).block table

@@ -11,6 +11,8 @@ use Rattle.slab_model.specs.Soundness.{IsSound}
 use Rattle.slab_model.specs.Store.{slab_store}
 use Rattle.slab_model.proofs.Laws.{grant-sound}
 use Rattle.slab_model.proofs.BlockLaws.{grant-grants, grant-none}
+use Rattle.slab_model.proofs.ShapeLemmas.{grant_shape, bytes_same}
+use Rattle.slab_model.proofs.LiveLemmas.{once_here, once_there, live_some, live_none, live_same}
 use Rattle.req_zone.specs.declared.state.ReqEntry.{ReqEntry}
 use Rattle.req_zone.specs.declared.state.ReqState.{ReqState}
 use Rattle.req_zone.specs.Table.{has_key}
@@ -19,9 +21,9 @@ use Rattle.req_zone.specs.Expiry.{without_oldest, evict}
 use Rattle.req_zone.specs.Step.{node_size}
 use Rattle.req_zone.specs.Object.{parts_of, with_parts, once_at, holds_at, context_size, name_size}
 use Rattle.req_zone.specs.Holding.{entries_of, nodes_at, named_at, HasNode, IsWhole}
-use Rattle.req_zone.specs.Proving.Tables.{evicted_permutes, same_key, holds_permute, nodes_permute, holds_join, nodes_join, nodes_more, keys_more, once_here, once_there, each_named}
+use Rattle.req_zone.specs.Proving.Tables.{evicted_permutes, same_key, holds_permute, nodes_permute, holds_join, nodes_join, nodes_more, keys_more, each_named}
 use Rattle.req_zone.specs.Proving.Expired.{IsFree, free_holds}
-use Rattle.req_zone.specs.Proving.Blocks.{grant_shape, bytes_same, live_some, live_none, live_same, Owns, given_back}
+use Rattle.req_zone.specs.Proving.Blocks.{Owns, given_back}
 
 no_entry : ReqEntry
 no_entry = record { key = []; block = 0; excess = 0; last = 0; count = 0 }

@@ -1,0 +1,5 @@
+use Rattle.std.proofs.Common.{length}
+use Rattle.zone_tests.proofs.conn_tests.+had.Given as goal
+
+abbrev pub decreases-had : goal.decreases-had
+decreases-had l = length l.entries.now

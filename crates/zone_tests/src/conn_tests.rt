@@ -1,0 +1,228 @@
+ghost use Rattle.std.specs.Prelude.{◌≡◌, ◌+◌, ◌<◌, ◌≤◌, ◌^◌, [], length, sum_by, IfOk};
+ghost use Rattle.zone_object.specs.History.{own};
+ghost use Rattle.conn_zone.specs.Object.{given as given_in, back as back_in, given_by, back_by};
+
+use crate::conn_plain::{PlainConn, PlainEntry};
+use crate::draws::Draws;
+use crate::reader::{Form, find, word};
+use conn_zone::ConnReply::{AtLimit, Closed, NoRoom, Opened};
+use conn_zone::{ConnCall, ConnReply, ConnSpec, ConnZone};
+use std::alloc::Global;
+use std::process::Abort;
+use std::test::Fail;
+use zone_key::{Key, crc32};
+use zone_object::{Entry, Journal, ZoneView};
+use zone_outside::Text;
+
+/// How many calls a zone is asked.
+const CALLS: u32 = 2000;
+
+/// An empty zone of so many bytes, with an empty journal.
+fn opened(rt: &impl Abort, alloc: Global, bytes: u64) -> Result<Journal<ConnZone>, Fail>
+    ensures { IfOk result (λ journal. (journal.room ≡ 2000) × (journal.log ≡ [])) }
+{
+    assert!(rt; bytes <= 67_108_864);
+    let spec = ConnSpec {
+        name: Text::of(alloc, b"c")?,
+        bytes,
+        page_shift: 12,
+    };
+    let zone = ConnZone::open(alloc, spec)?;
+    Ok(Journal::new(alloc, zone, CALLS)?)
+}
+
+/// How many connections on the entry of a block a reply gives.
+fn given(reply: ConnReply, block: u64) -> u64
+    ensures { result ≡ given_by block reply }
+{
+    match reply {
+        Opened { at, count: _ } => u64::from(at == block),
+        AtLimit { .. } => 0,
+        NoRoom => 0,
+        Closed { .. } => 0,
+    }
+}
+
+/// How many a call gives back.
+fn back(call: &ConnCall, block: u64) -> u64
+    ensures { result ≡ back_by block call.now }
+{
+    match call {
+        ConnCall::Open { .. } => 0,
+        ConnCall::Close { at } => u64::from(*at == block),
+    }
+}
+
+/// The connections on the entry of a block that caller 0 was given, and those that it gave back.
+#[derive(Clone, Copy)]
+struct Tally {
+    given: u64,
+    back: u64,
+}
+
+/// Those of these entries.
+fn had(entries: &[Entry<ConnZone>], block: u64) -> Tally
+    requires { length entries.now < 2 ^ 32 }
+    ensures given { result.given ≡ sum_by (given_in block) (own entries.now 0) }
+    ensures back { result.back ≡ sum_by (back_in block) (own entries.now 0) }
+    ensures few { (result.given ≤ length entries.now) × (result.back ≤ length entries.now) }
+{
+    let Some((entry, rest)) = entries.split_first() else {
+        return Tally { given: 0, back: 0 };
+    };
+    let later = had(rest, block);
+    if entry.caller != 0 {
+        return later;
+    }
+    Tally {
+        given: given(entry.reply, block) + later.given,
+        back: back(&entry.call, block) + later.back,
+    }
+}
+
+/// Makes a call for caller 0, which closes only what it opened.
+fn made(rt: &impl Abort, journal: &mut Journal<ConnZone>, call: ConnCall) -> ConnReply
+    requires { length journal.old.log < journal.old.room }
+    ensures room { journal.new.room ≡ journal.old.room }
+    ensures log { length journal.new.log ≡ length journal.old.log + 1 }
+{
+    match call {
+        ConnCall::Open { key, limit } => {
+            let long = key.bytes().len();
+            assert!(rt; long > 0 && long < 256 && limit > 0 && limit < 65_536);
+            journal.call(0, ConnCall::Open { key, limit })
+        }
+        ConnCall::Close { at } => {
+            let entries = journal.entries();
+            assert!(rt; entries.len() < 1_000_000);
+            let had = had(entries, at);
+            assert!(rt; had.back < had.given);
+            journal.call(0, ConnCall::Close { at })
+        }
+    }
+}
+
+/// A call: a connection of a key opens, or one that is open closes, more often the more are open.
+fn drawn(alloc: Global, draws: &mut Draws, held: &mut Vec<u64>, most: u64) -> Result<ConnCall, Fail>
+    requires { 0 < most }
+{
+    let open = held.len() as u64;
+    if open == 0 || draws.below(most) >= open {
+        return Ok(ConnCall::Open {
+            key: Key::of(alloc, &draws.key(alloc, 400, false)?)?,
+            limit: 1 + draws.below(12),
+        });
+    }
+    let place = draws.below(open) as usize;
+    Ok(ConnCall::Close {
+        at: held.swap_remove(place),
+    })
+}
+
+/// Where a node has its key.
+const FORM: Form = Form {
+    divisor: 256,
+    bound: 256,
+    key_at: 36,
+};
+
+/// Compares a node with its entry.
+fn compare_node(rt: &impl Abort, zone: &ConnZone, context: u64, entry: &PlainEntry) {
+    let hash = u64::from(crc32(&entry.key));
+    let found = find(rt, zone, context, FORM, hash, &entry.key);
+    assert_eq!(rt; found, Some(entry.block));
+    let count = word(rt, zone, entry.block, 4) / 65_536 % 65_536;
+    assert_eq!(rt; count, entry.count);
+}
+
+/// Compares the words of a zone with the plain table, and how full it is.
+fn compare(rt: &impl Abort, zone: &ConnZone, plain: &PlainConn) {
+    let context = word(rt, zone, 0, 23);
+    for entry in &plain.entries {
+        compare_node(rt, zone, context, entry);
+    }
+    assert_eq!(rt; zone.entry_count(), plain.entries.len() as u64);
+    assert_eq!(rt; zone.free_count(), plain.slab.free_pages());
+}
+
+/// How often each reply came.
+#[derive(Clone, Copy)]
+struct Seen {
+    opened: u32,
+    at_limit: u32,
+    no_room: u32,
+    closed: u32,
+}
+
+impl Seen {
+    fn with(self, reply: ConnReply) -> Seen {
+        let mut seen = self;
+        match reply {
+            Opened { .. } => seen.opened = seen.opened.saturating_add(1),
+            AtLimit { .. } => seen.at_limit = seen.at_limit.saturating_add(1),
+            NoRoom => seen.no_room = seen.no_room.saturating_add(1),
+            Closed { .. } => seen.closed = seen.closed.saturating_add(1),
+        }
+        seen
+    }
+}
+
+/// Makes generated calls on an empty zone and on the plain table, and compares the replies, and the words at times.
+fn generated(
+    rt: &impl Abort,
+    alloc: Global,
+    seed: u64,
+    most: u64,
+    bytes: u64,
+    before: Seen,
+) -> Result<Seen, Fail> {
+    assert!(rt; most > 0);
+    let mut journal = opened(rt, alloc, bytes)?;
+    let mut plain = PlainConn::open(rt, alloc, bytes)?;
+    let mut held: Vec<u64> = Vec::new(alloc);
+    let mut draws = Draws::new(seed);
+    let mut seen = before;
+    for n in 0..CALLS {
+        let call = drawn(alloc, &mut draws, &mut held, most)?;
+        let want = plain.step(rt, alloc, &call)?;
+        let reply = made(rt, &mut journal, call);
+        assert_eq!(rt; reply, want, "seed {seed} call {n}");
+        if let Opened { at, count: _ } = reply {
+            held.push(at)?;
+        }
+        seen = seen.with(reply);
+        if n % 100 == 99 {
+            compare(rt, journal.object(), &plain);
+        }
+    }
+    Ok(seen)
+}
+
+/// Ten zones, of three sizes, with some 20 to 1,000 connections open at once: 20,000 calls.
+#[test]
+fn generated_connection_calls(rt: HostRuntime) -> Result<(), Fail> {
+    let alloc = rt.alloc();
+    let mut seen = Seen {
+        opened: 0,
+        at_limit: 0,
+        no_room: 0,
+        closed: 0,
+    };
+    for (seed, most, bytes) in [
+        (1, 40, 32_768),
+        (2, 300, 32_768),
+        (3, 600, 32_768),
+        (4, 1000, 32_768),
+        (5, 2000, 32_768),
+        (6, 300, 65_536),
+        (7, 1000, 65_536),
+        (8, 2000, 65_536),
+        (9, 40, 1_048_576),
+        (10, 2000, 1_048_576),
+    ] {
+        seen = generated(&rt, alloc, seed, most, bytes, seen)?;
+    }
+    assert!(rt; seen.opened > 5000 && seen.at_limit > 2000);
+    assert!(rt; seen.no_room > 500 && seen.closed > 3000);
+    Ok(())
+}
