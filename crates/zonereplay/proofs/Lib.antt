@@ -4,3 +4,4 @@ pub mod AnswerLemmas
 pub mod OneLemmas
 pub mod WordLemmas
 pub mod PlainLemmas
+pub mod ImageLemmas
