@@ -5,5 +5,5 @@ use Rattle.zonereplay.proofs.made.write_made.Goals as goal
 
 pub write_summary-requires-clause-few : goal.write_summary-requires-clause-few
 write_summary-requires-clause-few c =
-    let count = ap (λ (lines : List Line). length lines) (c.deref.ensures.value ∙ c.in_ok-lines.ensures.made) ∙ made-count c.args.seed c.args.count in
+    let count = ap (λ (lines : List Line). length lines) (c.deref.ensures.value ∙ c.in_ok-lines.ensures.made) ∙ made-count _ c.args.count in
     omega (arith, count, c.requires)
