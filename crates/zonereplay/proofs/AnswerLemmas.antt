@@ -3,14 +3,16 @@ use Rattle.std.proofs.Common.{ℕ, ◌≡◌, ◌⊎◌, List, Option, Some, Non
 use Rattle.std.specs.Io.KnownBytes.{Keeps}
 use Rattle.zonereplay.specs.declared.status.Status.{Status}
 use Rattle.zonereplay.specs.declared.status.Status.TheVariants as status
+use Rattle.zonereplay.specs.declared.stop.Refusal.{Refusal}
 use Rattle.zonereplay.specs.declared.stop.Refusal.TheVariants.{Usage, TooLong, Text, Rule, Log}
 use Rattle.zonereplay.specs.declared.stop.Stop.{Stop}
 use Rattle.zonereplay.specs.declared.stop.Stop.TheVariants.{Refused, ReadFault, NoMemory}
 use Rattle.zonereplay.specs.Statuses.{code_of}
 use Rattle.zonereplay.specs.Stops.{status_of, line_of}
+use Rattle.zonereplay.specs.Told.{Told}
 use Rattle.zonereplay.specs.Plan.{Plan, Ends}
-use Rattle.zonereplay.specs.Plan.Plan.{refuses}
-use Rattle.zonereplay.specs.Plan.End.{refused}
+use Rattle.zonereplay.specs.Plan.Plan.{refuses, writes}
+use Rattle.zonereplay.specs.Plan.End.{refused, written}
 use Rattle.zonereplay.specs.Devices.{Taken, Files, Devices, FilesCalm, TakesWhole, TakesNone, TakesFault}
 use Rattle.zonereplay.specs.Answers.{Stops, Stopped, Says, IsFree, Does}
 use Rattle.zonereplay.specs.Stages.{LineTold, Wants, StopTold, Wrote, Concludes, FilesKept, Prints, Prepares}
@@ -100,3 +102,29 @@ usage_does plan before after status is files out tells =
     let calm : FilesCalm before.files after.files = λ name. ap (λ (f : Files). f.faults name) files in
     let kept : FilesKept before.files after.files = record { kept = λ name. ap (λ (f : Files). f.contents name) files; later = λ name. rw files (omega arith) } in
     does plan before after status kept (stop_says plan before after (Refused Usage) status (rw out (none_taken before.out)) (ends, calm) tells)
+
+-- ---- a command that reads nothing
+
+not_both : (told : Told) (refusal : Refusal) → refused refusal ≡ written told → ⊥
+not_both told refusal is = cc
+
+module _ (told : Told) (before after : Devices) where
+  -- it stops for want of memory alone
+  writes_stop : (stop : Stop) (status : Status) → Stops (writes told) before.files after.files stop → status ≡ status_of stop → code_of status ≡ 7
+  writes_stop (Refused refusal) status cause is = absurd (not_both told refusal cause.0)
+  writes_stop ReadFault status cause is = absurd cause.named
+  writes_stop NoMemory status cause is = ap code_of is
+
+  writes_says : (status : Status) → Says (writes told) before after status → (code_of status ≡ 0) ⊎ ((code_of status ≡ 5) ⊎ (code_of status ≡ 7))
+  writes_says status.Done says = inl refl
+  writes_says status.Usage says = inr (inr (writes_stop says.stop status.Usage says.cause says.status_is))
+  writes_says status.ConfigFault says = inr (inr (writes_stop says.stop status.ConfigFault says.cause says.status_is))
+  writes_says status.LogFault says = inr (inr (writes_stop says.stop status.LogFault says.cause says.status_is))
+  writes_says status.ReadFault says = inr (inr (writes_stop says.stop status.ReadFault says.cause says.status_is))
+  writes_says status.TooLong says = inr (inr (writes_stop says.stop status.TooLong says.cause says.status_is))
+  writes_says status.WriteFault says = inr (inl refl)
+  writes_says status.NoMemory says = inr (inr refl)
+
+  -- so it ends with 0, 5 or 7
+  pub writes_statuses : (number : ℕ) → Does (writes told) before after number → (number ≡ 0) ⊎ ((number ≡ 5) ⊎ (number ≡ 7))
+  writes_statuses number does = subst (λ (n : ℕ). (n ≡ 0) ⊎ ((n ≡ 5) ⊎ (n ≡ 7))) (sym does.number_is) (writes_says does.status does.says)

@@ -5,4 +5,5 @@ pub mod OneLemmas
 pub mod WordLemmas
 pub mod PlainLemmas
 pub mod ImageLemmas
+pub mod MadeLemmas
 pub mod OneShown

@@ -1,5 +1,5 @@
 -- The zone of `one` over the keys of a log.
-use Rattle.std.proofs.Common.{ℕ, ◌≡◌, ◌+◌, ◌<◌, ◌≤◌, ◌^◌, Bool, true, false, cond, ltb, List, [], ◌∷◌, ◌++◌, length, Option, Some, None, arith, ap, sym, subst, ◌∙◌, refl, length-append, append_assoc}
+use Rattle.std.proofs.Common.{ℕ, ◌≡◌, ◌+◌, ◌<◌, ◌≤◌, ◌^◌, true, cond, List, [], ◌∷◌, ◌++◌, length, Option, Some, None, arith, ap, sym, subst, ◌∙◌, refl, length-append, append_assoc}
 use Rattle.std.specs.List.{concat}
 use Rattle.std.proofs.lemmas.Bool.{lt-ltb, le-ltb}
 use Rattle.zone_object.specs.declared.object.Entry.{Entry}
@@ -17,7 +17,7 @@ use Rattle.req_zone.specs.Proving.Answers.{answer-law}
 use Rattle.req_zone.specs.Lays.{Lays}
 use Rattle.replay_log.specs.declared.keys.KeyLine.{KeyLine}
 use Rattle.zonereplay.specs.Words.{OneJob}
-use Rattle.zonereplay.specs.OneText.{delayed_excess, check_of, is_long, reply_to, after_key, key_line, key_lines}
+use Rattle.zonereplay.specs.OneText.{delayed_excess, check_of, reply_to, after_key, key_line, key_lines}
 use Rattle.zonereplay.specs.Checking.{HasAnswered}
 
 -- a zone that was just opened has answered nothing

@@ -1,5 +1,5 @@
 -- A replay by one worker has one text, and what `plain` replays follows from what its files hold.
-use Rattle.std.proofs.Common.{ℕ, ◌≡◌, Bool, true, false, if◌then◌else◌, List, length, Option, Some, None, Result, Ok, Err, sym, refl, ap, subst, ◌∙◌, inl, inr}
+use Rattle.std.proofs.Common.{ℕ, ◌≡◌, Bool, true, false, if◌then◌else◌, List, length, map, Option, Some, None, Result, Ok, Err, sym, refl, ap, subst, ◌∙◌, inl, inr}
 use Rattle.std.specs.Prelude.{nat_lt}
 use Rattle.std.specs.List.{filter_map}
 use Rattle.directive_text.specs.declared.tree.Directive.{Directive}
@@ -14,17 +14,21 @@ use Rattle.replay_log.specs.declared.line.Line.{Line}
 use Rattle.replay_log.specs.Requests.{requests_of}
 use Rattle.replay_log.specs.Lines.{Fault}
 use Rattle.replay_share.specs.OneReplay.{Outcome, SomeReplay}
+use Rattle.replay_share.specs.Replay.{decision_of}
 use Rattle.replay_share.specs.Opening.{refused_line}
 use Rattle.replay_share.proofs.OneReplay.{one_replay}
 use Rattle.replay_text.specs.ReplayText.{replay_text}
 use Rattle.zonereplay.specs.declared.stop.Refusal.{Refusal}
 use Rattle.zonereplay.specs.declared.stop.Refusal.TheVariants.{TooLong}
+use Rattle.made_log.specs.MadeConfig.{made_config}
+use Rattle.made_log.specs.MadeLog.{made_lines}
+use Rattle.made_log.specs.Summary.{summary_text}
 use Rattle.zonereplay.specs.Told.{Told, Shows}
-use Rattle.zonereplay.specs.Told.Told.{replay}
+use Rattle.zonereplay.specs.Told.Told.{replay, summary}
 use Rattle.zonereplay.specs.Plan.{Plan, SaysConfig, Ends, MayHold, text_limit, in_limit, unless_refused, with_zones, log_run, plain_log, plain_plan}
 use Rattle.zonereplay.specs.Plan.Plan.{refuses, reads}
 use Rattle.zonereplay.specs.Plan.End.{refused, written}
-use Rattle.zonereplay.specs.OneShown.{OneShown, SomeShown, OnePlain}
+use Rattle.zonereplay.specs.OneShown.{OneShown, SomeShown, OnePlain, OneSummary, OneMade}
 
 -- ---- a replay
 
@@ -134,3 +138,22 @@ one_plain contents name log given lines first second name_is log_is h k =
     let shown : Shows (replay one.config 1 one.requests) first = subst (λ (t : Told). Shows t first) one.told_is h.shown in
     let too : Shows (replay one.config 1 one.requests) second = subst (λ (t : Told). Shows t second) (same ∙ one.told_is) k.shown in
     one_shown one.config one.requests first second shown too
+
+-- ---- `made`
+
+pub one_summary : OneSummary
+one_summary config lines first second h k =
+    let one : Outcome = record { decided = h.decided; logs = h.logs } in
+    let two : Outcome = record { decided = k.decided; logs = k.logs } in
+    h.text_is ∙ ap (λ (o : Outcome). summary_text config.zones (map decision_of o.decided) o.logs) (one_replay config lines one two h.played k.played) ∙ sym k.text_is
+
+same-told : (one two : Told) → written one ≡ written two → one ≡ two
+same-told one two is = cc
+
+pub one_made : OneMade
+one_made some other seed count first second h k =
+    let config = made_config in
+    let lines = made_lines seed count in
+    let one : h.told ≡ summary config lines = same-told h.told (summary config lines) h.ends in
+    let two : k.told ≡ summary config lines = same-told k.told (summary config lines) k.ends in
+    one_summary config lines first second (subst (λ (t : Told). Shows t first) one h.shown) (subst (λ (t : Told). Shows t second) two k.shown)

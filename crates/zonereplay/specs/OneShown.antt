@@ -6,8 +6,8 @@ use Rattle.zone_config.specs.Conditions.{IsConfig}
 use Rattle.replay_log.specs.declared.line.Line.{Line}
 use Rattle.replay_log.specs.Limits.{IsLineOf}
 use Rattle.replay_share.specs.Opening.{refused_line}
-use Rattle.zonereplay.specs.Told.{ShowsReplay}
-use Rattle.zonereplay.specs.Plan.{plain_plan}
+use Rattle.zonereplay.specs.Told.{ShowsReplay, ShowsSummary}
+use Rattle.zonereplay.specs.Plan.{plain_plan, made_plan}
 use Rattle.zonereplay.specs.Stages.{Prints}
 
 -- Two texts that show a replay of the same lines by one worker are equal.
@@ -23,3 +23,11 @@ SomeShown = (config : Config) (lines : List Line) → IsConfig config → refuse
 abbrev pub OnePlain : Type 0
 OnePlain = (contents : List ℕ → Option (List ℕ)) (name log given lines : List ℕ) (first second : List ℕ) → contents name ≡ Some given → contents log ≡ Some lines
     → Prints contents (plain_plan name log) first → Prints contents (plain_plan name log) second → first ≡ second
+
+-- Two texts that show the summary of a replay of the same lines are equal.
+abbrev pub OneSummary : Type 0
+OneSummary = (config : Config) (lines : List Line) (first second : List ℕ) → ShowsSummary config lines first → ShowsSummary config lines second → first ≡ second
+
+-- `made` writes one text of a seed and a number of lines, whatever the files hold.
+abbrev pub OneMade : Type 0
+OneMade = (some other : List ℕ → Option (List ℕ)) (seed count : ℕ) (first second : List ℕ) → Prints some (made_plan seed count) first → Prints other (made_plan seed count) second → first ≡ second

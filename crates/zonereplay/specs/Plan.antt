@@ -13,15 +13,17 @@ use Rattle.replay_log.specs.declared.keys.KeyLine.{KeyLine}
 use Rattle.zonereplay.specs.declared.stop.Refusal.{Refusal}
 use Rattle.zonereplay.specs.declared.stop.Refusal.TheVariants.{Usage, TooLong, Text, Rule, Log}
 use Rattle.zonereplay.specs.Words.{Command, OneJob, command_of}
-use Rattle.zonereplay.specs.Words.Command.{one, check, plain, image}
+use Rattle.zonereplay.specs.Words.Command.{one, check, plain, image, made}
 use Rattle.replay_log.specs.Lines.{Fault}
 use Rattle.replay_log.specs.Keys.{keys_of}
 use Rattle.replay_log.specs.Requests.{requests_of}
 use Rattle.replay_log.specs.declared.line.Line.{Line}
 use Rattle.replay_share.specs.Opening.{refused_line}
+use Rattle.made_log.specs.MadeConfig.{made_config}
+use Rattle.made_log.specs.MadeLog.{made_lines}
 use Rattle.zonereplay.specs.OneText.{one_text}
 use Rattle.zonereplay.specs.Told.{Told}
-use Rattle.zonereplay.specs.Told.Told.{exactly, replay, zone_words}
+use Rattle.zonereplay.specs.Told.Told.{exactly, replay, zone_words, summary}
 
 -- the steps that are left
 pub data Plan : Type 0 where
@@ -127,6 +129,10 @@ image_log log name config = with_zone (position (is_zone_called name) config.zon
 abbrev pub image_plan : List ℕ → List ℕ → List ℕ → Plan
 image_plan name log zone = reads name (in_limit (λ text. with_zones text (image_log log zone)))
 
+-- `made SEED LINES`: nothing is read, and the made log is replayed in the made configuration
+abbrev pub made_plan : ℕ → ℕ → Plan
+made_plan seed lines = writes (summary made_config (made_lines seed lines))
+
 -- words of no form are refused
 abbrev pub plan_for : Option Command → Plan
 plan_for None = refuses Usage
@@ -134,6 +140,7 @@ plan_for (Some (one job log)) = one_plan job log
 plan_for (Some (check config)) = check_plan config
 plan_for (Some (plain config log)) = plain_plan config log
 plan_for (Some (image config log zone)) = image_plan config log zone
+plan_for (Some (made seed lines)) = made_plan seed lines
 
 abbrev pub plan_of : List (List ℕ) → Plan
 plan_of words = plan_for (command_of words)

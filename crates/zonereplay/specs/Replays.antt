@@ -1,5 +1,5 @@
 -- What is wanted of a replay on one worker.
-use Rattle.std.specs.Prelude.{ℕ, ◌<◌, List, length}
+use Rattle.std.specs.Prelude.{◌<◌, List, length}
 use Rattle.zone_config.specs.declared.data.Config.{Config}
 use Rattle.replay_log.specs.declared.line.Line.{Line}
 use Rattle.zonereplay.specs.declared.replay.Wanted.{Wanted}

@@ -1,5 +1,5 @@
 -- The words of the command line.
-use Rattle.std.specs.Prelude.{ℕ, ◌-◌, ◌*◌, ◌/◌, ◌||◌, ◌&&◌, ◌==◌, nat_le, if◌then◌else◌, List, [], ◌∷◌, length, take, drop, slice_index, Option, Some, None, codes}
+use Rattle.std.specs.Prelude.{ℕ, ◌-◌, ◌*◌, ◌/◌, ◌^◌, ◌||◌, ◌&&◌, ◌==◌, nat_le, if◌then◌else◌, List, [], ◌∷◌, length, take, drop, slice_index, Option, Some, None, codes}
 use Rattle.std.specs.Option.{option_map}
 use Rattle.std.specs.Str.{bytes_eq}
 use Rattle.zone_outside.specs.Numbers.{number_of}
@@ -65,6 +65,8 @@ pub data Command : Type 0 where
   plain : (config log : List ℕ) → Command
   -- the same, and then the words of the zone of this name
   image : (config log zone : List ℕ) → Command
+  -- a log of so many lines is made of a seed and replayed
+  made : (seed lines : ℕ) → Command
 
 -- the job, where each of its numbers was read
 abbrev pub one_job : Option ℕ → Option ℕ → Option ℕ → List ℕ → Option Command
@@ -92,6 +94,17 @@ abbrev pub image_of : List (List ℕ) → Option Command
 image_of (command ∷ config ∷ log ∷ zone ∷ []) = if bytes_eq command (codes "image") then Some (image config log zone) else None
 image_of words = None
 
+-- the seed and the number of lines, where both were read
+abbrev pub made_job : Option ℕ → Option ℕ → Option Command
+made_job (Some seed) (Some lines) = Some (made seed lines)
+made_job seed lines = None
+
+-- `made SEED LINES`: a seed below 2^64, and 0 to 131,072 lines
+abbrev pub made_of : List (List ℕ) → Option Command
+made_of (command ∷ seed ∷ lines ∷ []) =
+    if bytes_eq command (codes "made") then made_job (number_of (2 ^ 64 - 1) seed) (number_of 131072 lines) else None
+made_of words = None
+
 -- the first of two that is there
 abbrev pub first_form : Option Command → Option Command → Option Command
 first_form None second = second
@@ -99,4 +112,4 @@ first_form (Some command) second = Some command
 
 -- what the words ask for, none where they are of none of the forms that are built
 abbrev pub command_of : List (List ℕ) → Option Command
-command_of words = first_form (one_of words) (first_form (check_of words) (first_form (plain_of words) (image_of words)))
+command_of words = first_form (one_of words) (first_form (check_of words) (first_form (plain_of words) (first_form (image_of words) (made_of words))))

@@ -1,17 +1,18 @@
-ghost use Rattle.std.specs.Prelude.{IsSome};
-ghost use Rattle.zonereplay.specs.Words.{one_of, check_of, plain_of, image_of};
+ghost use Rattle.std.specs.Prelude.{◌≡◌, ◌⊎◌, IsSome};
+ghost use Rattle.zonereplay.specs.Words.{one_of, check_of, plain_of, image_of, made_of};
 ghost use Rattle.zonereplay.specs.Plan.{plan_of};
 ghost use Rattle.zonereplay.specs.Answers.{Does};
 ghost use Rattle.zonereplay.specs.Stages.{Concludes};
 
 use crate::image::prepare_image;
+use crate::made::prepare_made;
 use crate::output::write_lines;
 use crate::plain::prepare_plain;
 use crate::prepare::{prepare_check, prepare_one};
 use crate::status::Status;
 use crate::stop::Stop;
 use crate::tell::{tell_stop, tell_write_fault};
-use crate::words::{read_check, read_image, read_one, read_plain};
+use crate::words::{read_check, read_image, read_made, read_one, read_plain};
 use std::alloc::Global;
 use zone_outside::{Shelf, Sink, Text};
 
@@ -151,5 +152,37 @@ pub fn image_command<F: Shelf, O: Sink, E: Sink>(
         unreachable!()
     };
     let prepared = prepare_image(alloc, name, log, zone, files);
+    conclude(alloc, prepared, out, err).code()
+}
+
+/// Makes a log of a seed, replays it on one worker, and writes a summary: how many opens pass, are delayed, are refused and
+/// find no server, and how full each zone is then. The words are `made SEED LINES`. No file is read.
+pub fn made_command<F: Shelf, O: Sink, E: Sink>(
+    alloc: Global,
+    words: &[Text],
+    _files: &mut F,
+    out: &mut O,
+    err: &mut E,
+) -> u8
+    requires { IsSome (made_of words.now) }
+    ensures does { Does (plan_of words.now)
+        (record {
+          files = record { contents = F.contents _files.old; faults = F.faults _files.old };
+          out = record { text = O.taken out.old; faults = O.faults out.old };
+          err = record { text = E.taken err.old; faults = E.faults err.old };
+        })
+        (record {
+          files = record { contents = F.contents _files.new; faults = F.faults _files.new };
+          out = record { text = O.taken out.new; faults = O.faults out.new };
+          err = record { text = E.taken err.new; faults = E.faults err.new };
+        })
+        result }
+    // Nothing can be wrong with the words and with files.
+    ensures statuses { (result ≡ 0) ⊎ ((result ≡ 5) ⊎ (result ≡ 7)) }
+{
+    let Some((seed, lines)) = read_made(words) else {
+        unreachable!()
+    };
+    let prepared = prepare_made(alloc, seed, lines);
     conclude(alloc, prepared, out, err).code()
 }

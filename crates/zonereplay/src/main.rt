@@ -5,6 +5,7 @@ mod close;
 mod commands;
 mod image;
 mod job;
+mod made;
 mod one;
 mod output;
 mod plain;

@@ -35,7 +35,7 @@ pub(crate) enum Wanted {
 }
 
 /// Replays the lines on one worker: the zones with their journals, and what is decided of each line.
-fn play(
+pub(crate) fn play(
     alloc: Global,
     config: &Config,
     lines: &[Line],

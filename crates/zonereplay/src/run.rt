@@ -3,10 +3,10 @@ ghost use Rattle.zonereplay.specs.Words.{command_of};
 ghost use Rattle.zonereplay.specs.Plan.{plan_of};
 ghost use Rattle.zonereplay.specs.Answers.{Does};
 
-use crate::commands::{check_command, image_command, one_command, plain_command};
+use crate::commands::{check_command, image_command, made_command, one_command, plain_command};
 use crate::stop::{Refusal, Stop};
 use crate::tell::tell_stop;
-use crate::words::{read_check, read_image, read_one, read_plain};
+use crate::words::{read_check, read_image, read_made, read_one, read_plain};
 use std::alloc::Global;
 use zone_outside::{Shelf, Sink, Text};
 
@@ -49,17 +49,20 @@ pub fn run<R, F: Shelf, O: Sink, E: Sink>(
     ensures form { result ≡ 1 → command_of words.now ≡ None }
     ensures no_form { command_of words.now ≡ None → (result ≡ 1) ⊎ (result ≡ 5) }
 {
-    match read_one(words) {
-        Some(_) => one_command(alloc, words, files, out, err),
-        None => match read_check(words) {
-            Some(_) => check_command(alloc, words, files, out, err),
-            None => match read_plain(words) {
-                Some(_) => plain_command(alloc, words, files, out, err),
-                None => match read_image(words) {
-                    Some(_) => image_command(alloc, words, files, out, err),
-                    None => tell_stop(alloc, err, Stop::Refused(Refusal::Usage)).code(),
-                },
-            },
-        },
+    if read_one(words).is_some() {
+        return one_command(alloc, words, files, out, err);
     }
+    if read_check(words).is_some() {
+        return check_command(alloc, words, files, out, err);
+    }
+    if read_plain(words).is_some() {
+        return plain_command(alloc, words, files, out, err);
+    }
+    if read_image(words).is_some() {
+        return image_command(alloc, words, files, out, err);
+    }
+    if read_made(words).is_some() {
+        return made_command(alloc, words, files, out, err);
+    }
+    tell_stop(alloc, err, Stop::Refused(Refusal::Usage)).code()
 }

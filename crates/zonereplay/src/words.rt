@@ -1,7 +1,7 @@
 ghost use Rattle.std.specs.Prelude.{◌≡◌, ◌≤◌, IfSome, MatchOption, Some, None};
 ghost use Rattle.req_zone.specs.Amount.{IsRate, greatest_burst};
-ghost use Rattle.zonereplay.specs.Words.{rate_of, burst_of, unit_of, size_of, one_of, check_of, plain_of, image_of};
-ghost use Rattle.zonereplay.specs.Words.Command.{one, check, plain, image};
+ghost use Rattle.zonereplay.specs.Words.{rate_of, burst_of, unit_of, size_of, one_of, check_of, plain_of, image_of, made_of};
+ghost use Rattle.zonereplay.specs.Words.Command.{one, check, plain, image, made};
 ghost use Rattle.zonereplay.specs.Jobs.{asked};
 
 use crate::job::Job;
@@ -99,4 +99,20 @@ pub(crate) fn read_image(words: &[Text]) -> Option<(&Text, &Text, &Text)>
         return None;
     };
     (command.bytes() == b"image".as_slice()).then_some((config, log, zone))
+}
+
+/// What the words `made SEED LINES` ask for: a seed below 2^64, and how many lines are made of it, at most 131,072.
+pub(crate) fn read_made(words: &[Text]) -> Option<(u64, u32)>
+    ensures asked { MatchOption result (made_of words.now ≡ None) (λ numbers. made_of words.now ≡ Some (made numbers.0 numbers.1)) }
+    ensures limits { IfSome result (λ numbers. numbers.1 ≤ 131072) }
+{
+    let [command, seed, lines] = words else {
+        return None;
+    };
+    if command.bytes() != b"made".as_slice() {
+        return None;
+    }
+    let seed = read_number(seed.bytes(), u64::MAX)?;
+    let lines = read_number(lines.bytes(), 131_072)?;
+    Some((seed, lines as u32))
 }

@@ -1,4 +1,4 @@
-use Rattle.std.proofs.Common.{List, ℕ}
+use Rattle.std.proofs.Common.{ℕ}
 use Rattle.zonereplay.specs.Plan.{log_plan}
 use Rattle.zonereplay.specs.Told.Told.{zone_words}
 use Rattle.zonereplay.specs.Devices.{Files}

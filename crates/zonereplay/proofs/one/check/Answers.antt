@@ -1,10 +1,10 @@
-use Rattle.std.proofs.Common.{◌≡◌, ◌∙◌, ◌+◌, ◌<◌, ◌≤◌, ◌^◌, ℕ, Option, Some, ap, arith, sym, subst, length, true}
+use Rattle.std.proofs.Common.{◌∙◌, ◌+◌, ◌<◌, ◌≤◌, ◌^◌, ℕ, Some, ap, arith, sym, subst, length, true}
 use Rattle.req_zone.specs.declared.calls.ReqCall.TheVariants.{Check}
 use Rattle.req_zone.specs.declared.calls.ReqReply.{ReqReply}
 use Rattle.req_zone.specs.declared.state.ReqState.{ReqState}
 use Rattle.req_zone.specs.Amount.{greatest_burst}
 use Rattle.req_zone.specs.Object.{IsAsked, answer_of, zone_after}
-use Rattle.zonereplay.specs.OneText.{delayed_excess, after_key}
+use Rattle.zonereplay.specs.OneText.{delayed_excess}
 use Rattle.zonereplay.specs.Checking.{HasAnswered}
 use Rattle.zonereplay.proofs.OneLemmas.{answered_laid, answered_ready, answered_more, delayed_small, short_reply, short_after}
 use Rattle.zonereplay.proofs.one.check.Goals as goal

@@ -1,4 +1,4 @@
-use Rattle.std.proofs.Common.{◌≡◌, ◌+◌, ◌++◌, ℕ, length}
+use Rattle.std.proofs.Common.{◌≡◌, ◌+◌, ◌++◌, length}
 use Rattle.std.specs.List.{All, concat}
 use Rattle.std.specs.Vec.Iter.{into_iter_items}
 use Rattle.req_zone.specs.declared.state.ReqState.{ReqState}

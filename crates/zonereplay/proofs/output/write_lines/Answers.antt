@@ -1,8 +1,6 @@
-use Rattle.std.proofs.Common.{ℕ, ◌≡◌, ◌∙◌, ◌<◌, ◌++◌, List, length, take, sym, subst, Result, Err}
+use Rattle.std.proofs.Common.{◌∙◌, ◌++◌, take, sym, subst}
 use Rattle.std.proofs.KnownBytes.{Appends-trans}
 use Rattle.std.specs.Io.KnownBytes.{Appends}
-use Rattle.zone_outside.specs.Faults.{HasCause}
-use Rattle.zone_outside.specs.declared.transfer.WriteFault.{WriteFault}
 use Rattle.zonereplay.proofs.LineLemmas.{cut_is, line_after, line_part}
 use Rattle.zonereplay.proofs.output.write_lines.Goals as goal
 

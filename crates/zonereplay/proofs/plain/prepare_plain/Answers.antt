@@ -1,5 +1,4 @@
 use Rattle.std.proofs.Common.{List, ℕ, Err, subst}
-use Rattle.zonereplay.specs.declared.stop.Stop.{Stop}
 use Rattle.zonereplay.specs.Plan.{Plan, plain_log, with_zones}
 use Rattle.zonereplay.specs.Devices.{Files}
 use Rattle.zonereplay.specs.Stages.{Prepares}
