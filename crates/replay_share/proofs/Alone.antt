@@ -16,10 +16,11 @@ use Rattle.request_script.specs.declared.active.Active.{Active}
 use Rattle.request_script.specs.Turn.{Leads}
 use Rattle.replay_share.specs.declared.journal.ZoneJournal.{ZoneJournal}
 use Rattle.replay_share.specs.declared.journal.ZoneJournal.TheVariants.{Req, Conn, Peer}
-use Rattle.replay_share.specs.Logs.{ZoneLog, IsLogAt}
-use Rattle.replay_share.specs.Journals.{IsJournalAt, Serves, log_of}
+use Rattle.replay_share.specs.Logs.{ZoneLog, IsLogOf, IsLogAt}
+use Rattle.replay_share.specs.Asked.{IsAt}
+use Rattle.replay_share.specs.Journals.{IsJournalOf, HasJournal, Serves, log_of}
 use Rattle.replay_share.specs.Share.{HasReplayed}
-use Rattle.replay_share.specs.Replay.{Decided, line_of, decision_of, is_for, share_of, HasPlayed, IsReplay}
+use Rattle.replay_share.specs.Replay.{Decided, line_of, decision_of, goes_to, is_for, lines_of, share_of, HasPlayed, IsReplay}
 
 -- ---- the lines and their decisions
 
@@ -48,23 +49,31 @@ pub own_all : (decided : List Decided) → share_of 1 0 decided ≡ decided
 own_all [] = refl
 own_all (d ∷ ds) = rw (own_one d) (ap (λ (l : List Decided). d ∷ l) (own_all ds))
 
+line_mine : (l : Line) → goes_to 1 0 l ≡ true
+line_mine l = let none : l.conn % 1 ≡ 0 = omega arith in let t : nat_eq (l.conn % 1) 0 ≡ true = grind (arith, nat_tests, none) in t
+
+pub lines_all : (lines : List Line) → lines_of 1 0 lines ≡ lines
+lines_all [] = refl
+lines_all (l ∷ ls) = rw (line_mine l) (ap (λ (rest : List Line). l ∷ rest) (lines_all ls))
+
 -- ---- the histories
 
-log_at : (room : ℕ) (spec : Option ZoneSpec) (journal : Option ZoneJournal) → IsJournalAt room spec journal → IsLogAt 1 spec (option_map log_of journal)
-log_at room None None h = tt
-log_at room (Some (zone.Req spec key)) (Some (Req journal)) h = (h.ran.history, h.mine)
-log_at room (Some (zone.Conn spec key)) (Some (Conn journal)) h = (h.ran.history, h.mine)
-log_at room (Some (zone.Peer spec at)) (Some (Peer journal)) h = (h.ran.history, h.mine)
-log_at room None (Some journal) h = elim h [ ]
-log_at room (Some (zone.Req spec key)) None h = elim h [ ]
-log_at room (Some (zone.Conn spec key)) None h = elim h [ ]
-log_at room (Some (zone.Peer spec at)) None h = elim h [ ]
-log_at room (Some (zone.Req spec key)) (Some (Conn journal)) h = elim h [ ]
-log_at room (Some (zone.Req spec key)) (Some (Peer journal)) h = elim h [ ]
-log_at room (Some (zone.Conn spec key)) (Some (Req journal)) h = elim h [ ]
-log_at room (Some (zone.Conn spec key)) (Some (Peer journal)) h = elim h [ ]
-log_at room (Some (zone.Peer spec at)) (Some (Req journal)) h = elim h [ ]
-log_at room (Some (zone.Peer spec at)) (Some (Conn journal)) h = elim h [ ]
+log_of_one : (room : ℕ) (spec : ZoneSpec) (journal : ZoneJournal) → IsJournalOf spec room journal → IsLogOf 1 spec (log_of journal)
+log_of_one room (zone.Req spec key) (Req journal) h = (h.ran.history, h.mine)
+log_of_one room (zone.Conn spec key) (Conn journal) h = (h.ran.history, h.mine)
+log_of_one room (zone.Peer spec at) (Peer journal) h = (h.ran.history, h.mine)
+log_of_one room (zone.Req spec key) (Conn journal) h = elim h [ ]
+log_of_one room (zone.Req spec key) (Peer journal) h = elim h [ ]
+log_of_one room (zone.Conn spec key) (Req journal) h = elim h [ ]
+log_of_one room (zone.Conn spec key) (Peer journal) h = elim h [ ]
+log_of_one room (zone.Peer spec at) (Req journal) h = elim h [ ]
+log_of_one room (zone.Peer spec at) (Conn journal) h = elim h [ ]
+
+log_at : (room z : ℕ) (spec : Option ZoneSpec) (journal : Option ZoneJournal) → IsAt (HasJournal room z) spec journal → IsLogAt 1 spec (option_map log_of journal)
+log_at room z None None h = tt
+log_at room z (Some spec) (Some journal) h = log_of_one room spec journal h
+log_at room z None (Some journal) h = elim h [ ]
+log_at room z (Some spec) None h = elim h [ ]
 
 -- ---- the replay
 
@@ -83,6 +92,6 @@ plays_alone config room journals lines decisions pair h =
     let played : HasPlayed config (share_of 1 0 pair.decided) 0 (map log_of journals) = subst (λ (l : List Decided). HasPlayed config l 0 (map log_of journals)) (sym mine) all in
     record {
       lines_are = pair.lines_are;
-      histories = λ z. subst (λ (o : Option ZoneLog). IsLogAt 1 (slice_get config.zones z) o) (sym (slice_get-map log_of journals z)) (log_at room (slice_get config.zones z) (slice_get journals z) (h.served.each z));
+      histories = λ z. subst (λ (o : Option ZoneLog). IsLogAt 1 (slice_get config.zones z) o) (sym (slice_get-map log_of journals z)) (log_at room z (slice_get config.zones z) (slice_get journals z) (h.served.each z));
       shares = λ k low. let k_is : k ≡ 0 = omega (arith, low) in subst (λ (i : ℕ). HasPlayed config (share_of 1 i pair.decided) i (map log_of journals)) (sym k_is) played;
     }

@@ -5,6 +5,7 @@ pub mod Serving
 pub mod Served
 pub mod Going
 pub mod Alone
+pub mod Sharing
 pub mod Solo
 pub mod Answering
 pub mod ZoneAnswers

@@ -30,9 +30,13 @@ use Rattle.request_script.specs.Permitted.{zone_of}
 -- ---- the entries of one caller
 
 module _ {X St C R : Type 0} where
-  -- what was made, with a call of caller 0 more
-  made-snoc : (log : List (Entry X St C R)) (call : C) (reply : R) → map made_of (own (log ++ entry 0 call reply ∷ []) 0) ≡ map made_of (own log 0) ++ record { call = call; reply = reply } ∷ []
-  made-snoc log call reply = ap (λ l. map made_of l) (own-snoc_mine log (entry 0 call reply) 0 refl) ∙ map-append made_of (own log 0) (entry 0 call reply ∷ [])
+  -- what a caller made, with a call of its own more
+  made-snoc : (log new : List (Entry X St C R)) (who : ℕ) (call : C) (reply : R) → own new who ≡ own log who ++ entry who call reply ∷ [] → map made_of (own new who) ≡ map made_of (own log who) ++ record { call = call; reply = reply } ∷ []
+  made-snoc log new who call reply own_is = ap (λ l. map made_of l) own_is ∙ map-append made_of (own log who) (entry who call reply ∷ [])
+
+  -- a caller's entries, where its call is added to all
+  pub own-added : (log : List (Entry X St C R)) (who : ℕ) (call : C) (reply : R) → own (log ++ entry who call reply ∷ []) who ≡ own log who ++ entry who call reply ∷ []
+  own-added log who call reply = own-snoc_mine log (entry who call reply) who refl
 
   -- a sum over what was made is the sum over the entries
   pub made-sum : (f : Made C R → ℕ) (log : List (Entry X St C R)) → sum_by f (map made_of log) ≡ sum_by (λ (e : Entry X St C R). f (made_of e)) log
@@ -47,9 +51,13 @@ module _ {X St C R : Type 0} where
   own-all [] h = refl
   own-all (e ∷ es) h = own-cons e es (All-head (λ (d : Entry X St C R). d.caller < 1) e es h) (own-all es (All-tail (λ (d : Entry X St C R). d.caller < 1) e es h))
 
-  -- there are as many entries as were made
+  -- a caller has as many entries as it made calls
+  pub made-length : (log : List (Entry X St C R)) (who : ℕ) (made : List (Made C R)) → map made_of (own log who) ≡ made → length (own log who) ≡ length made
+  made-length log who made is = sym (length-map (own log who) (λ (e : Entry X St C R). made_of e)) ∙ ap length is
+
+  -- and where all are caller 0's, there are as many in all
   pub own-length : (log : List (Entry X St C R)) (made : List (Made C R)) → HasCallersBelow 1 log → map made_of (own log 0) ≡ made → length log ≡ length made
-  own-length log made mine is = sym (length-map log (λ (e : Entry X St C R). made_of e)) ∙ ap (λ (l : List (Entry X St C R)). length (map (λ (e : Entry X St C R). made_of e) l)) (sym (own-all log mine)) ∙ ap length is
+  own-length log made mine is = sym (ap length (own-all log mine)) ∙ made-length log 0 made is
 
 -- ---- the part of a zone is within the calls to it
 
@@ -104,25 +112,25 @@ peer_few z (e ∷ es) = subst (λ n. length (peer_part z (e ∷ es)) ≤ n) (sym
 same : (z : ℕ) → nat_eq z z ≡ true
 same z = grind (arith, nat_tests)
 
-pub req_grows : (asked : List Exchange) (entries : List ReqEntry) (z : ℕ) (call : ReqCall) (reply : ReqReply) → HasPart asked 0 z (req_log entries)
-    → HasPart (asked ++ record { call = to.Req z call; reply = from.Req reply } ∷ []) 0 z (req_log (entries ++ entry 0 call reply ∷ []))
-req_grows asked entries z call reply h =
+pub req_grows : (asked : List Exchange) (entries new : List ReqEntry) (who z : ℕ) (call : ReqCall) (reply : ReqReply) → own new who ≡ own entries who ++ entry who call reply ∷ [] → HasPart asked who z (req_log entries)
+    → HasPart (asked ++ record { call = to.Req z call; reply = from.Req reply } ∷ []) who z (req_log new)
+req_grows asked entries new who z call reply own_is h =
     let grown : req_part z (record { call = to.Req z call; reply = from.Req reply } ∷ []) ≡ record { call = call; reply = reply } ∷ [] = rw (same z) refl in
-    made-snoc entries call reply ∙ ap (λ l. l ++ record { call = call; reply = reply } ∷ []) h
+    made-snoc entries new who call reply own_is ∙ ap (λ l. l ++ record { call = call; reply = reply } ∷ []) h
     ∙ sym (filter_map-append (λ (e : Exchange). req_made z e.call e.reply) asked (record { call = to.Req z call; reply = from.Req reply } ∷ []) ∙ ap (λ l. req_part z asked ++ l) grown)
 
-pub conn_grows : (asked : List Exchange) (entries : List ConnEntry) (z : ℕ) (call : ConnCall) (reply : ConnReply) → HasPart asked 0 z (conn_log entries)
-    → HasPart (asked ++ record { call = to.Conn z call; reply = from.Conn reply } ∷ []) 0 z (conn_log (entries ++ entry 0 call reply ∷ []))
-conn_grows asked entries z call reply h =
+pub conn_grows : (asked : List Exchange) (entries new : List ConnEntry) (who z : ℕ) (call : ConnCall) (reply : ConnReply) → own new who ≡ own entries who ++ entry who call reply ∷ [] → HasPart asked who z (conn_log entries)
+    → HasPart (asked ++ record { call = to.Conn z call; reply = from.Conn reply } ∷ []) who z (conn_log new)
+conn_grows asked entries new who z call reply own_is h =
     let grown : conn_part z (record { call = to.Conn z call; reply = from.Conn reply } ∷ []) ≡ record { call = call; reply = reply } ∷ [] = rw (same z) refl in
-    made-snoc entries call reply ∙ ap (λ l. l ++ record { call = call; reply = reply } ∷ []) h
+    made-snoc entries new who call reply own_is ∙ ap (λ l. l ++ record { call = call; reply = reply } ∷ []) h
     ∙ sym (filter_map-append (λ (e : Exchange). conn_made z e.call e.reply) asked (record { call = to.Conn z call; reply = from.Conn reply } ∷ []) ∙ ap (λ l. conn_part z asked ++ l) grown)
 
-pub peer_grows : (asked : List Exchange) (entries : List PeerEntry) (z : ℕ) (call : PeerCall) (reply : PeerReply) → HasPart asked 0 z (peer_log entries)
-    → HasPart (asked ++ record { call = to.Peer z call; reply = from.Peer reply } ∷ []) 0 z (peer_log (entries ++ entry 0 call reply ∷ []))
-peer_grows asked entries z call reply h =
+pub peer_grows : (asked : List Exchange) (entries new : List PeerEntry) (who z : ℕ) (call : PeerCall) (reply : PeerReply) → own new who ≡ own entries who ++ entry who call reply ∷ [] → HasPart asked who z (peer_log entries)
+    → HasPart (asked ++ record { call = to.Peer z call; reply = from.Peer reply } ∷ []) who z (peer_log new)
+peer_grows asked entries new who z call reply own_is h =
     let grown : peer_part z (record { call = to.Peer z call; reply = from.Peer reply } ∷ []) ≡ record { call = call; reply = reply } ∷ [] = rw (same z) refl in
-    made-snoc entries call reply ∙ ap (λ l. l ++ record { call = call; reply = reply } ∷ []) h
+    made-snoc entries new who call reply own_is ∙ ap (λ l. l ++ record { call = call; reply = reply } ∷ []) h
     ∙ sym (filter_map-append (λ (e : Exchange). peer_made z e.call e.reply) asked (record { call = to.Peer z call; reply = from.Peer reply } ∷ []) ∙ ap (λ l. peer_part z asked ++ l) grown)
 
 -- ---- a call to another zone
@@ -160,8 +168,8 @@ module _ {B : Type 0} where
   part_stays : (h : Exchange → Option B) (asked : List Exchange) (e : Exchange) → filter_map h (e ∷ []) ≡ [] → filter_map h (asked ++ e ∷ []) ≡ filter_map h asked
   part_stays h asked e none = filter_map-append h asked (e ∷ []) ∙ ap (λ l. filter_map h asked ++ l) none ∙ append-nil (filter_map h asked)
 
-pub part-stays : (asked : List Exchange) (z : ℕ) (call : ZoneCall) (reply : ZoneReply) (zone_log : ZoneLog) → zone_of call ≢ z → HasPart asked 0 z zone_log
-    → HasPart (asked ++ record { call = call; reply = reply } ∷ []) 0 z zone_log
-part-stays asked z call reply (req_log entries) differs h = h ∙ sym (part_stays (λ (e : Exchange). req_made z e.call e.reply) asked (record { call = call; reply = reply }) (req_other z call reply differs))
-part-stays asked z call reply (conn_log entries) differs h = h ∙ sym (part_stays (λ (e : Exchange). conn_made z e.call e.reply) asked (record { call = call; reply = reply }) (conn_other z call reply differs))
-part-stays asked z call reply (peer_log entries) differs h = h ∙ sym (part_stays (λ (e : Exchange). peer_made z e.call e.reply) asked (record { call = call; reply = reply }) (peer_other z call reply differs))
+pub part-stays : (asked : List Exchange) (who z : ℕ) (call : ZoneCall) (reply : ZoneReply) (zone_log : ZoneLog) → zone_of call ≢ z → HasPart asked who z zone_log
+    → HasPart (asked ++ record { call = call; reply = reply } ∷ []) who z zone_log
+part-stays asked who z call reply (req_log entries) differs h = h ∙ sym (part_stays (λ (e : Exchange). req_made z e.call e.reply) asked (record { call = call; reply = reply }) (req_other z call reply differs))
+part-stays asked who z call reply (conn_log entries) differs h = h ∙ sym (part_stays (λ (e : Exchange). conn_made z e.call e.reply) asked (record { call = call; reply = reply }) (conn_other z call reply differs))
+part-stays asked who z call reply (peer_log entries) differs h = h ∙ sym (part_stays (λ (e : Exchange). peer_made z e.call e.reply) asked (record { call = call; reply = reply }) (peer_other z call reply differs))

@@ -1,4 +1,4 @@
--- What an opened zone starts with, and all zones together.
+-- What an opened zone begins with, and all zones together.
 use Rattle.std.proofs.Common.{ℕ, zero, suc, ◌≡◌, ◌+◌, ◌<◌, ◌≤◌, List, [], ◌∷◌, ◌++◌, length, map, take, drop, get_or, subst, sym, ap, refl, ◌∙◌, arith}
 use Rattle.std.specs.Prelude.{Option, Some, None, IfSome, slice_get}
 use Rattle.std.specs.List.{All}
@@ -14,12 +14,23 @@ use Rattle.peer_zone.specs.declared.calls.PeerSpec.{PeerSpec}
 use Rattle.peer_zone.specs.declared.words.PeerWords.{PeerWords}
 use Rattle.peer_zone.specs.Object as peer
 use Rattle.peer_zone.specs.Opening as opening
-use Rattle.peer_zone.specs.Lays.{Lays}
+use Rattle.peer_zone.specs.Lays as peer_words
+use Rattle.peer_zone.specs.declared.state.PeerState.{PeerState}
+use Rattle.req_zone.specs.declared.words.ReqWords.{ReqWords}
+use Rattle.req_zone.specs.declared.state.ReqState.{ReqState}
+use Rattle.req_zone.specs.Object as req
+use Rattle.req_zone.specs.Lays as req_words
+use Rattle.conn_zone.specs.declared.state.ConnState.{ConnState}
+use Rattle.conn_zone.specs.Object as conn
+use Rattle.conn_zone.specs.Layout as conn_words
+use Rattle.zone_config.specs.declared.data.ReqData.{ReqData}
+use Rattle.zone_config.specs.declared.data.ConnData.{ConnData}
 use Rattle.request_script.specs.ZoneSpecs.{peer_spec, server_of}
 use Rattle.replay_share.specs.declared.journal.ZoneJournal.{ZoneJournal}
-use Rattle.replay_share.specs.Logs.{PeerEntry, HasPart}
-use Rattle.replay_share.specs.Journals.{RunsPeer, IsJournalAt, Serves, log_of}
-use Rattle.replay_share.specs.Opening.{IsFresh, refused_at, refused_line, first_of}
+use Rattle.replay_share.specs.Logs.{ReqEntry, ConnEntry, PeerEntry, HasPart, req_opened, conn_opened, peer_opened}
+use Rattle.replay_share.specs.Asked.{IsAt}
+use Rattle.replay_share.specs.Journals.{RunsReq, RunsConn, RunsPeer, HasJournal, Serves, log_of}
+use Rattle.replay_share.specs.Opening.{IsNewReq, IsNewConn, IsNewPeer, IsFresh, refused_at, refused_line, first_of}
 
 -- ---- an upstream's zone
 
@@ -36,19 +47,54 @@ server d h = record {
 pub servers : (given : List ServerData) → All config.IsServer given → All peer.IsServer (map server_of given)
 servers given h = All-map peer.IsServer server_of given (All-weaker config.IsServer (λ (d : ServerData). peer.IsServer (server_of d)) server given h)
 
-pub runs_peer : (given : PeerData) (room : ℕ) (spec : PeerSpec) (zone : PeerWords) (journal : Recorded PeerWords PeerEntry) → spec ≡ peer_spec given → journal ≡ record { object = zone; room = room; log = [] }
-    → HasRun opening.IsOpened Lays peer.answer_of peer.zone_after peer.Permits (opening.opened_zone spec) journal.object journal.log → opening.refused_server spec ≡ None
-    → RunsPeer given room journal × (journal.log ≡ []) × (opening.refused_server (peer_spec given) ≡ None)
-runs_peer given room spec zone journal spec_is is ran none =
+-- ---- a zone that has just been opened, with its journal
+
+pub fresh_req : (given : ReqData) (room : ℕ) (zone : ReqWords) (journal : Recorded ReqWords ReqEntry) → IsNewReq given zone → journal ≡ record { object = zone; room = room; log = [] }
+    → ((s : ReqState) → req.IsOpened s → req_words.Lays zone s → HasRun req.IsOpened req_words.Lays req.answer_of req.zone_after req.Permits s journal.object journal.log) → RunsReq given room journal × (journal.log ≡ [])
+fresh_req given room zone journal new is ran =
+    let empty : journal.log ≡ [] = ap (λ (j : Recorded ReqWords ReqEntry). j.log) is in (
+      record {
+        room_is = ap (λ (j : Recorded ReqWords ReqEntry). j.room) is;
+        ran = ran (req_opened given) new.quiet new.laid;
+        mine = subst (λ (l : List ReqEntry). All (λ (e : ReqEntry). e.caller < 1) l) (sym empty) (All-nil (λ (e : ReqEntry). e.caller < 1));
+      },
+      empty,
+    )
+
+pub fresh_conn : (given : ConnData) (room : ℕ) (zone : conn_words.Zone) (journal : Recorded conn_words.Zone ConnEntry) → IsNewConn given zone → journal ≡ record { object = zone; room = room; log = [] }
+    → ((s : ConnState) → conn.IsOpened s → conn_words.Lays zone s → HasRun conn.IsOpened conn_words.Lays conn.answer_of conn.zone_after conn.Permits s journal.object journal.log) → RunsConn given room journal × (journal.log ≡ [])
+fresh_conn given room zone journal new is ran =
+    let empty : journal.log ≡ [] = ap (λ (j : Recorded conn_words.Zone ConnEntry). j.log) is in (
+      record {
+        room_is = ap (λ (j : Recorded conn_words.Zone ConnEntry). j.room) is;
+        ran = ran (conn_opened given) new.quiet new.laid;
+        mine = subst (λ (l : List ConnEntry). All (λ (e : ConnEntry). e.caller < 1) l) (sym empty) (All-nil (λ (e : ConnEntry). e.caller < 1));
+      },
+      empty,
+    )
+
+pub fresh_peer : (given : PeerData) (room : ℕ) (zone : PeerWords) (journal : Recorded PeerWords PeerEntry) → IsNewPeer given zone → journal ≡ record { object = zone; room = room; log = [] }
+    → ((s : PeerState) → opening.IsOpened s → peer_words.Lays zone s → HasRun opening.IsOpened peer_words.Lays peer.answer_of peer.zone_after peer.Permits s journal.object journal.log) → RunsPeer given room journal × (journal.log ≡ [])
+fresh_peer given room zone journal new is ran =
     let empty : journal.log ≡ [] = ap (λ (j : Recorded PeerWords PeerEntry). j.log) is in (
       record {
         room_is = ap (λ (j : Recorded PeerWords PeerEntry). j.room) is;
-        ran = subst (λ (s : PeerSpec). HasRun opening.IsOpened Lays peer.answer_of peer.zone_after peer.Permits (opening.opened_zone s) journal.object journal.log) spec_is ran;
+        ran = ran (peer_opened given) new.quiet new.laid;
         mine = subst (λ (l : List PeerEntry). All (λ (e : PeerEntry). e.caller < 1) l) (sym empty) (All-nil (λ (e : PeerEntry). e.caller < 1));
       },
       empty,
-      ap opening.refused_server (sym spec_is) ∙ none,
     )
+
+-- the state is that of what was asked, where the specification of an upstream's zone is known by another name
+pub new_peer : (given : PeerData) (spec : PeerSpec) (zone : PeerWords) → spec ≡ peer_spec given → opening.IsOpened (opening.opened_zone spec) → peer_words.Lays zone (opening.opened_zone spec) → opening.refused_server spec ≡ None
+    → IsNewPeer given zone × (opening.refused_server (peer_spec given) ≡ None)
+new_peer given spec zone is quiet laid none = (
+  record {
+    quiet = subst (λ (s : PeerSpec). opening.IsOpened (opening.opened_zone s)) is quiet;
+    laid = subst (λ (s : PeerSpec). peer_words.Lays zone (opening.opened_zone s)) is laid;
+  },
+  ap opening.refused_server (sym is) ∙ none,
+)
 
 -- ---- all zones
 
@@ -64,12 +110,12 @@ fresh-push room (s ∷ ss) (j ∷ js) spec journal h one = (h.0, fresh-push room
 fresh-push room [] (j ∷ js) spec journal h one = elim h [ ]
 fresh-push room (s ∷ ss) [] spec journal h one = elim h [ ]
 
-at_each : (room : ℕ) (specs : List ZoneSpec) (journals : List ZoneJournal) → AreFresh room specs journals → (z : ℕ) → IsJournalAt room (slice_get specs z) (slice_get journals z)
-at_each room [] [] h z = tt
-at_each room (s ∷ ss) (j ∷ js) h zero = h.0.kept
-at_each room (s ∷ ss) (j ∷ js) h (suc z) = at_each room ss js h.1 z
-at_each room [] (j ∷ js) h z = elim h [ ]
-at_each room (s ∷ ss) [] h z = elim h [ ]
+at_each : (room : ℕ) (specs : List ZoneSpec) (journals : List ZoneJournal) → AreFresh room specs journals → (i z : ℕ) → IsAt (HasJournal room i) (slice_get specs z) (slice_get journals z)
+at_each room [] [] h i z = tt
+at_each room (s ∷ ss) (j ∷ js) h i zero = h.0.kept
+at_each room (s ∷ ss) (j ∷ js) h i (suc z) = at_each room ss js h.1 i z
+at_each room [] (j ∷ js) h i z = elim h [ ]
+at_each room (s ∷ ss) [] h i z = elim h [ ]
 
 part_of : (room : ℕ) (specs : List ZoneSpec) (journals : List ZoneJournal) → AreFresh room specs journals → (z i : ℕ) → IfSome (slice_get (map log_of journals) i) (HasPart [] 0 z)
 part_of room [] [] h z i = tt
@@ -80,7 +126,7 @@ part_of room (s ∷ ss) [] h z i = elim h [ ]
 
 pub fresh-serves : (room : ℕ) (specs : List ZoneSpec) (journals : List ZoneJournal) → AreFresh room specs journals → Serves journals specs room []
 fresh-serves room specs journals h = record {
-  each = at_each room specs journals h;
+  each = λ z. at_each room specs journals h z z;
   parts = λ z. part_of room specs journals h z z;
   kinds = All-nil _;
 }

@@ -1,4 +1,4 @@
--- The journals of all zones: the one that a call goes to, and all of them after it.
+-- What stands for all zones: the one that a call goes to, and all of them after it.
 use Rattle.std.proofs.Common.{ℕ, ◌≡◌, ◌≢◌, ◌<◌, ◌≤◌, ◌⊎◌, inl, inr, Bool, true, false, List, [], ◌∷◌, ◌++◌, length, map, get_or, subst, sym, ap, refl, ◌∙◌, arith}
 use Rattle.std.specs.Prelude.{nat_eq, nat_lt, Option, Some, None, slice_get, slice_set, IfSome}
 use Rattle.std.specs.Option.{option_map}
@@ -7,16 +7,14 @@ use Rattle.std.proofs.lemmas.List.Elements.{All-push}
 use Rattle.std.proofs.lemmas.Option.{get_or_from_slice_get, slice_get-map, slice_get_within, slice_get-get_or, slice_get_past, slice_get_cases}
 use Rattle.std.proofs.lemmas.Bool.Decides.{nat_tests}
 use Rattle.zone_config.specs.declared.data.ZoneSpec.{ZoneSpec}
-use Rattle.zone_config.specs.declared.data.ZoneSpec.TheVariants as zone
 use Rattle.request_script.specs.declared.call.ZoneCall.{ZoneCall}
 use Rattle.request_script.specs.declared.call.ZoneCall.TheVariants as to
 use Rattle.request_script.specs.declared.call.ZoneReply.{ZoneReply}
 use Rattle.request_script.specs.Turn.{Exchange}
-use Rattle.replay_share.specs.declared.journal.ZoneJournal.{ZoneJournal}
 use Rattle.request_script.specs.Permitted.{IsOfKind, zone_of}
 use Rattle.replay_share.specs.Calls.{IsReplyTo, IsWith, CanAsk}
 use Rattle.replay_share.specs.Logs.{ZoneLog, HasPart, HasParts}
-use Rattle.replay_share.specs.Journals.{IsJournalOf, IsJournalAt, Serves, CanTake, TakesAs, log_of}
+use Rattle.replay_share.specs.Asked.{IsAt, HasAsked, HasTaken, MayTake}
 use Rattle.replay_share.proofs.Parts.{part-stays}
 
 -- ---- two numbers
@@ -56,99 +54,100 @@ there None (to.Req zone call) h = elim h [ ]
 there None (to.Conn zone call) h = elim h [ ]
 there None (to.Peer zone call) h = elim h [ ]
 
--- and so is its journal
-kept : (room : ℕ) (spec : ZoneSpec) (journal : Option ZoneJournal) → IsJournalAt room (Some spec) journal → (x : ZoneJournal) × (journal ≡ Some x) × IsJournalOf spec room x
-kept room spec (Some x) h = (x, refl, h)
-kept room (zone.Req spec key) None h = elim h [ ]
-kept room (zone.Conn spec key) None h = elim h [ ]
-kept room (zone.Peer spec line) None h = elim h [ ]
+module _ {J : Type 0} where
+  -- and so is what stands for it
+  kept : (IsOf : ZoneSpec → J → Type 0) (spec : ZoneSpec) (o : Option J) → IsAt IsOf (Some spec) o → (x : J) × (o ≡ Some x) × IsOf spec x
+  kept IsOf spec (Some x) h = (x, refl, h)
+  kept IsOf spec None h = elim h [ ]
 
--- the part of a zone whose journal is known
-part_at : (journals : List ZoneJournal) (asked : List Exchange) (z : ℕ) (journal : ZoneJournal) → HasParts asked 0 (map log_of journals) → slice_get journals z ≡ Some journal → HasPart asked 0 z (log_of journal)
-part_at journals asked z journal parts is =
-    subst (λ (o : Option ZoneLog). IfSome o (HasPart asked 0 z)) (slice_get-map log_of journals z ∙ ap (option_map log_of) is) (parts z)
+module _ {J : Type 0} (IsOf : ℕ → ZoneSpec → J → Type 0) (log_of : J → ZoneLog) (who : ℕ) where
+  -- the part of a zone is known
+  part_at : (all : List J) (asked : List Exchange) (z : ℕ) (j : J) → HasParts asked who (map log_of all) → slice_get all z ≡ Some j → HasPart asked who z (log_of j)
+  part_at all asked z j parts is =
+      subst (λ (o : Option ZoneLog). IfSome o (HasPart asked who z)) (slice_get-map log_of all z ∙ ap (option_map log_of) is) (parts z)
 
--- what a call finds
-pub record Finds (journals : List ZoneJournal) (zones : List ZoneSpec) (room : ℕ) (asked : List Exchange) (call : ZoneCall) : Type 0 where
-  pub spec : ZoneSpec
-  pub spec_is : slice_get zones (zone_of call) ≡ Some spec
-  pub journal : ZoneJournal
-  pub journal_is : slice_get journals (zone_of call) ≡ Some journal
-  pub can : CanTake journal spec room asked call
+  -- what a call finds
+  pub record Finds (all : List J) (zones : List ZoneSpec) (room : ℕ) (asked : List Exchange) (call : ZoneCall) : Type 0 where
+    pub spec : ZoneSpec
+    pub spec_is : slice_get zones (zone_of call) ≡ Some spec
+    pub found : J
+    pub found_is : slice_get all (zone_of call) ≡ Some found
+    pub can : MayTake IsOf log_of who found spec room asked call
 
-pub finds : (journals : List ZoneJournal) (zones : List ZoneSpec) (room : ℕ) (asked : List Exchange) (call : ZoneCall) → Serves journals zones room asked → CanAsk zones room asked call → Finds journals zones room asked call
-finds journals zones room asked call serves can =
-    let z = zone_of call in
-    let found = there (slice_get zones z) call can.there in
-    let at = kept room found.0 (slice_get journals z) (subst (λ (o : Option ZoneSpec). IsJournalAt room o (slice_get journals z)) found.1 (serves.each z)) in
-    record {
-      spec = found.0;
-      spec_is = found.1;
-      journal = at.0;
-      journal_is = at.1;
-      can = record {
-        taken = record { kept = at.2; part = part_at journals asked z at.0 serves.parts at.1 };
-        kind = subst (λ (o : Option ZoneSpec). IsOfKind o call) found.1 can.there;
-        room_left = can.room_left;
-        may = can.may;
-      };
+  pub finds : (all : List J) (zones : List ZoneSpec) (room : ℕ) (asked : List Exchange) (call : ZoneCall) → HasAsked IsOf log_of who all zones asked → CanAsk zones room asked call → Finds all zones room asked call
+  finds all zones room asked call serves can =
+      let z = zone_of call in
+      let known = there (slice_get zones z) call can.there in
+      let at = kept (IsOf z) known.0 (slice_get all z) (subst (λ (o : Option ZoneSpec). IsAt (IsOf z) o (slice_get all z)) known.1 (serves.each z)) in
+      record {
+        spec = known.0;
+        spec_is = known.1;
+        found = at.0;
+        found_is = at.1;
+        can = record {
+          taken = record { kept = at.2; part = part_at all asked z at.0 serves.parts at.1 };
+          kind = subst (λ (o : Option ZoneSpec). IsOfKind o call) known.1 can.there;
+          room_left = can.room_left;
+          may = can.may;
+        };
+      }
+
+  -- ---- all of them after a call
+
+  module _ (all : List J) (zones : List ZoneSpec) (room : ℕ) (asked : List Exchange) (call : ZoneCall) (reply : ZoneReply) (new : J)
+      (serves : HasAsked IsOf log_of who all zones asked) (found : Finds all zones room asked call) (takes : HasTaken IsOf log_of who new found.spec (asked ++ record { call = call; reply = reply } ∷ []) call) where
+    abbrev e : Exchange
+    e = record { call = call; reply = reply }
+
+    low : zone_of call < length all
+    low = slice_get_within all (zone_of call) found.found found.found_is
+
+    abbrev after : List J
+    after = slice_set all (zone_of call) new
+
+    at_zone : slice_get after (zone_of call) ≡ Some new
+    at_zone = get-set_same all (zone_of call) new low
+
+    each_zone : (z : ℕ) → (z ≡ zone_of call) ⊎ (z ≢ zone_of call) → IsAt (IsOf z) (slice_get zones z) (slice_get after z)
+    each_zone z (inl is) =
+        let at : slice_get after z ≡ Some new = ap (slice_get after) is ∙ at_zone in
+        let spec : slice_get zones z ≡ Some found.spec = ap (slice_get zones) is ∙ found.spec_is in
+        let kept_at : IsOf z found.spec new = subst (λ (i : ℕ). IsOf i found.spec new) (sym is) takes.kept in
+        subst (λ (o : Option J). IsAt (IsOf z) (slice_get zones z) o) (sym at) (subst (λ (o : Option ZoneSpec). IsAt (IsOf z) o (Some new)) (sym spec) kept_at)
+    each_zone z (inr differs) = subst (λ (o : Option J). IsAt (IsOf z) (slice_get zones z) o) (sym (get-set_other all (zone_of call) z new differs)) (serves.each z)
+
+    -- the part of another zone stays
+    stays : (z : ℕ) → z ≢ zone_of call → (o : Option ZoneLog) → IfSome o (HasPart asked who z) → IfSome o (HasPart (asked ++ e ∷ []) who z)
+    stays z differs None h = tt
+    stays z differs (Some log) h = part-stays asked who z call reply log (λ is. differs (sym is)) h
+
+    log_at : (z : ℕ) → slice_get (map log_of after) z ≡ option_map log_of (slice_get after z)
+    log_at z = slice_get-map log_of after z
+
+    each_part : (z : ℕ) → (z ≡ zone_of call) ⊎ (z ≢ zone_of call) → IfSome (slice_get (map log_of after) z) (HasPart (asked ++ e ∷ []) who z)
+    each_part z (inl is) =
+        let at : slice_get (map log_of after) z ≡ Some (log_of new) = log_at z ∙ ap (option_map log_of) (ap (slice_get after) is ∙ at_zone) in
+        subst (λ (o : Option ZoneLog). IfSome o (HasPart (asked ++ e ∷ []) who z)) (sym at) (subst (λ (i : ℕ). HasPart (asked ++ e ∷ []) who i (log_of new)) (sym is) takes.part)
+    each_part z (inr differs) =
+        let at : slice_get (map log_of after) z ≡ slice_get (map log_of all) z = log_at z ∙ ap (option_map log_of) (get-set_other all (zone_of call) z new differs) ∙ sym (slice_get-map log_of all z) in
+        subst (λ (o : Option ZoneLog). IfSome o (HasPart (asked ++ e ∷ []) who z)) (sym at) (stays z differs (slice_get (map log_of all) z) (serves.parts z))
+
+    pub serves-after : IsReplyTo call reply → IsOfKind (slice_get zones (zone_of call)) call → HasAsked IsOf log_of who (slice_set all (zone_of call) new) zones (asked ++ record { call = call; reply = reply } ∷ [])
+    serves-after replies kind = record {
+      each = λ z. each_zone z (same_or z (zone_of call));
+      parts = λ z. each_part z (same_or z (zone_of call));
+      kinds = All-push (IsWith zones) asked e serves.kinds (record { there = kind; reply = replies });
     }
 
--- ---- all journals after a call
+  -- ---- a list that is known by another name
 
-module _ (journals : List ZoneJournal) (zones : List ZoneSpec) (room : ℕ) (asked : List Exchange) (call : ZoneCall) (reply : ZoneReply) (new : ZoneJournal)
-    (serves : Serves journals zones room asked) (found : Finds journals zones room asked call) (takes : TakesAs new found.spec room (asked ++ record { call = call; reply = reply } ∷ []) call) where
-  abbrev e : Exchange
-  e = record { call = call; reply = reply }
+  pub can_at : (inside now : List J) (i : ℕ) (x : J) (zones : List ZoneSpec) (room : ℕ) (asked : List Exchange) (call : ZoneCall) (f : Finds now zones room asked call)
+      → inside ≡ now → i ≡ zone_of call → x ≡ get_or inside i x → MayTake IsOf log_of who x f.spec room asked call
+  can_at inside now i x zones room asked call f inside_is i_is read =
+      let is : f.found ≡ x = sym (read ∙ ap (λ (l : List J). get_or l i x) inside_is ∙ ap (λ (k : ℕ). get_or now k x) i_is ∙ get_or_from_slice_get now (zone_of call) f.found x f.found_is) in
+      subst (λ (j : J). MayTake IsOf log_of who j f.spec room asked call) is f.can
 
-  low : zone_of call < length journals
-  low = slice_get_within journals (zone_of call) found.journal found.journal_is
-
-  abbrev after : List ZoneJournal
-  after = slice_set journals (zone_of call) new
-
-  at_zone : slice_get after (zone_of call) ≡ Some new
-  at_zone = get-set_same journals (zone_of call) new low
-
-  each_zone : (z : ℕ) → (z ≡ zone_of call) ⊎ (z ≢ zone_of call) → IsJournalAt room (slice_get zones z) (slice_get after z)
-  each_zone z (inl is) =
-      let at : slice_get after z ≡ Some new = ap (slice_get after) is ∙ at_zone in
-      let spec : slice_get zones z ≡ Some found.spec = ap (slice_get zones) is ∙ found.spec_is in
-      subst (λ (o : Option ZoneJournal). IsJournalAt room (slice_get zones z) o) (sym at) (subst (λ (o : Option ZoneSpec). IsJournalAt room o (Some new)) (sym spec) takes.kept)
-  each_zone z (inr differs) = subst (λ (o : Option ZoneJournal). IsJournalAt room (slice_get zones z) o) (sym (get-set_other journals (zone_of call) z new differs)) (serves.each z)
-
-  -- the part of another zone stays
-  stays : (z : ℕ) → z ≢ zone_of call → (o : Option ZoneLog) → IfSome o (HasPart asked 0 z) → IfSome o (HasPart (asked ++ e ∷ []) 0 z)
-  stays z differs None h = tt
-  stays z differs (Some log) h = part-stays asked z call reply log (λ is. differs (sym is)) h
-
-  log_at : (z : ℕ) → slice_get (map log_of after) z ≡ option_map log_of (slice_get after z)
-  log_at z = slice_get-map log_of after z
-
-  each_part : (z : ℕ) → (z ≡ zone_of call) ⊎ (z ≢ zone_of call) → IfSome (slice_get (map log_of after) z) (HasPart (asked ++ e ∷ []) 0 z)
-  each_part z (inl is) =
-      let at : slice_get (map log_of after) z ≡ Some (log_of new) = log_at z ∙ ap (option_map log_of) (ap (slice_get after) is ∙ at_zone) in
-      subst (λ (o : Option ZoneLog). IfSome o (HasPart (asked ++ e ∷ []) 0 z)) (sym at) (subst (λ (i : ℕ). HasPart (asked ++ e ∷ []) 0 i (log_of new)) (sym is) takes.part)
-  each_part z (inr differs) =
-      let at : slice_get (map log_of after) z ≡ slice_get (map log_of journals) z = log_at z ∙ ap (option_map log_of) (get-set_other journals (zone_of call) z new differs) ∙ sym (slice_get-map log_of journals z) in
-      subst (λ (o : Option ZoneLog). IfSome o (HasPart (asked ++ e ∷ []) 0 z)) (sym at) (stays z differs (slice_get (map log_of journals) z) (serves.parts z))
-
-  pub serves-after : IsReplyTo call reply → IsOfKind (slice_get zones (zone_of call)) call → Serves (slice_set journals (zone_of call) new) zones room (asked ++ record { call = call; reply = reply } ∷ [])
-  serves-after replies kind = record {
-    each = λ z. each_zone z (same_or z (zone_of call));
-    parts = λ z. each_part z (same_or z (zone_of call));
-    kinds = All-push (IsWith zones) asked e serves.kinds (record { there = kind; reply = replies });
-  }
-
--- ---- a list that is known by another name
-
-pub can_at : (inside now : List ZoneJournal) (i : ℕ) (x : ZoneJournal) (zones : List ZoneSpec) (room : ℕ) (asked : List Exchange) (call : ZoneCall) (f : Finds now zones room asked call)
-    → inside ≡ now → i ≡ zone_of call → x ≡ get_or inside i x → CanTake x f.spec room asked call
-can_at inside now i x zones room asked call f inside_is i_is read =
-    let is : f.journal ≡ x = sym (read ∙ ap (λ (l : List ZoneJournal). get_or l i x) inside_is ∙ ap (λ (k : ℕ). get_or now k x) i_is ∙ get_or_from_slice_get now (zone_of call) f.journal x f.journal_is) in
-    subst (λ (j : ZoneJournal). CanTake j f.spec room asked call) is f.can
-
-pub at_set : (inside now : List ZoneJournal) (i z : ℕ) (new : ZoneJournal) (zones : List ZoneSpec) (room : ℕ) (asked : List Exchange) → inside ≡ now → i ≡ z
-    → Serves (slice_set now z new) zones room asked → Serves (slice_set inside i new) zones room asked
-at_set inside now i z new zones room asked inside_is i_is h =
-    subst (λ (l : List ZoneJournal). Serves (slice_set l i new) zones room asked) (sym inside_is) (subst (λ (k : ℕ). Serves (slice_set now k new) zones room asked) (sym i_is) h)
+  pub at_set : (inside now : List J) (i z : ℕ) (new : J) (zones : List ZoneSpec) (asked : List Exchange) → inside ≡ now → i ≡ z
+      → HasAsked IsOf log_of who (slice_set now z new) zones asked → HasAsked IsOf log_of who (slice_set inside i new) zones asked
+  at_set inside now i z new zones asked inside_is i_is h =
+      subst (λ (l : List J). HasAsked IsOf log_of who (slice_set l i new) zones asked) (sym inside_is) (subst (λ (k : ℕ). HasAsked IsOf log_of who (slice_set now k new) zones asked) (sym i_is) h)

@@ -37,7 +37,7 @@ use Rattle.replay_share.specs.declared.journal.ZoneJournal.TheVariants.{Req, Con
 use Rattle.replay_share.specs.Logs.{ReqEntry, ConnEntry, PeerEntry, HasPart, made_of, req_opened, conn_opened, peer_opened}
 use Rattle.replay_share.specs.Logs.ZoneLog.{req_log, conn_log, peer_log}
 use Rattle.replay_share.specs.Journals.{CanTake, TakesAs}
-use Rattle.replay_share.proofs.Parts.{made-sum, own-length, req_few, conn_few, peer_few, req_grows, conn_grows, peer_grows}
+use Rattle.replay_share.proofs.Parts.{made-sum, own-length, own-added, req_few, conn_few, peer_few, req_grows, conn_grows, peer_grows}
 
 module _ {X St C R : Type 0} where
   -- what was given back is less than what was given, over the entries as over what was made
@@ -50,10 +50,10 @@ module _ {X St C R : Type 0} where
 
 -- ---- a request zone
 
-permits_req : (z : ℕ) (asked : List Exchange) (entries : List ReqEntry) (call : ReqCall) → HasPart asked 0 z (req_log entries) → may.MayAsk asked (to.Req z call) → req.Permits (own entries 0) call
-permits_req z asked entries (Check key now burst last) part may = may
-permits_req z asked entries (Account at now) part may = (may.0, less_made (λ (m : Made ReqCall ReqReply). req.back_by at m.call) (λ (m : Made ReqCall ReqReply). req.given_by at m.reply) (own entries 0) (req_part z asked) part may.1)
-permits_req z asked entries (Release at) part may = less_made (λ (m : Made ReqCall ReqReply). req.back_by at m.call) (λ (m : Made ReqCall ReqReply). req.given_by at m.reply) (own entries 0) (req_part z asked) part may
+pub permits_req : (who z : ℕ) (asked : List Exchange) (entries : List ReqEntry) (call : ReqCall) → HasPart asked who z (req_log entries) → may.MayAsk asked (to.Req z call) → req.Permits (own entries who) call
+permits_req who z asked entries (Check key now burst last) part may = may
+permits_req who z asked entries (Account at now) part may = (may.0, less_made (λ (m : Made ReqCall ReqReply). req.back_by at m.call) (λ (m : Made ReqCall ReqReply). req.given_by at m.reply) (own entries who) (req_part z asked) part may.1)
+permits_req who z asked entries (Release at) part may = less_made (λ (m : Made ReqCall ReqReply). req.back_by at m.call) (λ (m : Made ReqCall ReqReply). req.given_by at m.reply) (own entries who) (req_part z asked) part may
 
 pub room_req : (spec : ZoneSpec) (room : ℕ) (asked : List Exchange) (z : ℕ) (call : ReqCall) (journal : Recorded ReqWords ReqEntry) → CanTake (Req journal) spec room asked (to.Req z call) → length journal.log < journal.room
 room_req (zone.Req spec key) room asked z call journal can = omega (arith, can.room_left, can.taken.kept.room_is, own-length journal.log (req_part z asked) can.taken.kept.mine can.taken.part, req_few z asked)
@@ -61,7 +61,7 @@ room_req (zone.Conn spec key) room asked z call journal can = elim can.taken.kep
 room_req (zone.Peer spec line) room asked z call journal can = elim can.taken.kept [ ]
 
 pub may_req : (spec : ZoneSpec) (room : ℕ) (asked : List Exchange) (z : ℕ) (call : ReqCall) (journal : Recorded ReqWords ReqEntry) → CanTake (Req journal) spec room asked (to.Req z call) → req.Permits (own journal.log 0) call
-may_req spec room asked z call journal can = permits_req z asked journal.log call can.taken.part can.may
+may_req spec room asked z call journal can = permits_req 0 z asked journal.log call can.taken.part can.may
 
 pub taken_req : (spec : ZoneSpec) (room : ℕ) (asked : List Exchange) (z : ℕ) (call : ReqCall) (reply : ReqReply) (journal new : Recorded ReqWords ReqEntry)
     → CanTake (Req journal) spec room asked (to.Req z call) → new.room ≡ journal.room → new.log ≡ journal.log ++ entry 0 call reply ∷ []
@@ -73,16 +73,16 @@ taken_req (zone.Req spec key) room asked z call reply journal new can room_is lo
     ran = ran (req_opened spec) can.taken.kept.ran;
     mine = subst (λ (l : List ReqEntry). All (λ (e : ReqEntry). e.caller < 1) l) (sym log_is) (All-push (λ (e : ReqEntry). e.caller < 1) journal.log (entry 0 call reply) can.taken.kept.mine (omega arith));
   };
-  part = subst (λ (l : List ReqEntry). HasPart (asked ++ record { call = to.Req z call; reply = from.Req reply } ∷ []) 0 z (req_log l)) (sym log_is) (req_grows asked journal.log z call reply can.taken.part);
+  part = subst (λ (l : List ReqEntry). HasPart (asked ++ record { call = to.Req z call; reply = from.Req reply } ∷ []) 0 z (req_log l)) (sym log_is) (req_grows asked journal.log (journal.log ++ entry 0 call reply ∷ []) 0 z call reply (own-added journal.log 0 call reply) can.taken.part);
 }
 taken_req (zone.Conn spec key) room asked z call reply journal new can room_is log_is ran = elim can.taken.kept [ ]
 taken_req (zone.Peer spec line) room asked z call reply journal new can room_is log_is ran = elim can.taken.kept [ ]
 
 -- ---- a connection zone
 
-permits_conn : (z : ℕ) (asked : List Exchange) (entries : List ConnEntry) (call : ConnCall) → HasPart asked 0 z (conn_log entries) → may.MayAsk asked (to.Conn z call) → conn.Permits (own entries 0) call
-permits_conn z asked entries (Open key limit) part may = may
-permits_conn z asked entries (Close at) part may = less_made (λ (m : Made ConnCall ConnReply). conn.back_by at m.call) (λ (m : Made ConnCall ConnReply). conn.given_by at m.reply) (own entries 0) (conn_part z asked) part may
+pub permits_conn : (who z : ℕ) (asked : List Exchange) (entries : List ConnEntry) (call : ConnCall) → HasPart asked who z (conn_log entries) → may.MayAsk asked (to.Conn z call) → conn.Permits (own entries who) call
+permits_conn who z asked entries (Open key limit) part may = may
+permits_conn who z asked entries (Close at) part may = less_made (λ (m : Made ConnCall ConnReply). conn.back_by at m.call) (λ (m : Made ConnCall ConnReply). conn.given_by at m.reply) (own entries who) (conn_part z asked) part may
 
 pub room_conn : (spec : ZoneSpec) (room : ℕ) (asked : List Exchange) (z : ℕ) (call : ConnCall) (journal : Recorded conn_words.Zone ConnEntry) → CanTake (Conn journal) spec room asked (to.Conn z call) → length journal.log < journal.room
 room_conn (zone.Req spec key) room asked z call journal can = elim can.taken.kept [ ]
@@ -90,7 +90,7 @@ room_conn (zone.Conn spec key) room asked z call journal can = omega (arith, can
 room_conn (zone.Peer spec line) room asked z call journal can = elim can.taken.kept [ ]
 
 pub may_conn : (spec : ZoneSpec) (room : ℕ) (asked : List Exchange) (z : ℕ) (call : ConnCall) (journal : Recorded conn_words.Zone ConnEntry) → CanTake (Conn journal) spec room asked (to.Conn z call) → conn.Permits (own journal.log 0) call
-may_conn spec room asked z call journal can = permits_conn z asked journal.log call can.taken.part can.may
+may_conn spec room asked z call journal can = permits_conn 0 z asked journal.log call can.taken.part can.may
 
 pub taken_conn : (spec : ZoneSpec) (room : ℕ) (asked : List Exchange) (z : ℕ) (call : ConnCall) (reply : ConnReply) (journal new : Recorded conn_words.Zone ConnEntry)
     → CanTake (Conn journal) spec room asked (to.Conn z call) → new.room ≡ journal.room → new.log ≡ journal.log ++ entry 0 call reply ∷ []
@@ -103,15 +103,15 @@ taken_conn (zone.Conn spec key) room asked z call reply journal new can room_is 
     ran = ran (conn_opened spec) can.taken.kept.ran;
     mine = subst (λ (l : List ConnEntry). All (λ (e : ConnEntry). e.caller < 1) l) (sym log_is) (All-push (λ (e : ConnEntry). e.caller < 1) journal.log (entry 0 call reply) can.taken.kept.mine (omega arith));
   };
-  part = subst (λ (l : List ConnEntry). HasPart (asked ++ record { call = to.Conn z call; reply = from.Conn reply } ∷ []) 0 z (conn_log l)) (sym log_is) (conn_grows asked journal.log z call reply can.taken.part);
+  part = subst (λ (l : List ConnEntry). HasPart (asked ++ record { call = to.Conn z call; reply = from.Conn reply } ∷ []) 0 z (conn_log l)) (sym log_is) (conn_grows asked journal.log (journal.log ++ entry 0 call reply ∷ []) 0 z call reply (own-added journal.log 0 call reply) can.taken.part);
 }
 taken_conn (zone.Peer spec line) room asked z call reply journal new can room_is log_is ran = elim can.taken.kept [ ]
 
 -- ---- an upstream's zone
 
-permits_peer : (z : ℕ) (asked : List Exchange) (entries : List PeerEntry) (call : PeerCall) → HasPart asked 0 z (peer_log entries) → may.MayAsk asked (to.Peer z call) → peer.Permits (own entries 0) call
-permits_peer z asked entries (Choose list tried now) part may = may
-permits_peer z asked entries (Free list index failed now) part may = (may.0, may.1, less_made (λ (m : Made PeerCall PeerReply). peer.back_by list index m.call) (λ (m : Made PeerCall PeerReply). peer.given_by list index m.call m.reply) (own entries 0) (peer_part z asked) part may.2)
+pub permits_peer : (who z : ℕ) (asked : List Exchange) (entries : List PeerEntry) (call : PeerCall) → HasPart asked who z (peer_log entries) → may.MayAsk asked (to.Peer z call) → peer.Permits (own entries who) call
+permits_peer who z asked entries (Choose list tried now) part may = may
+permits_peer who z asked entries (Free list index failed now) part may = (may.0, may.1, less_made (λ (m : Made PeerCall PeerReply). peer.back_by list index m.call) (λ (m : Made PeerCall PeerReply). peer.given_by list index m.call m.reply) (own entries who) (peer_part z asked) part may.2)
 
 pub room_peer : (spec : ZoneSpec) (room : ℕ) (asked : List Exchange) (z : ℕ) (call : PeerCall) (journal : Recorded PeerWords PeerEntry) → CanTake (Peer journal) spec room asked (to.Peer z call) → length journal.log < journal.room
 room_peer (zone.Req spec key) room asked z call journal can = elim can.taken.kept [ ]
@@ -119,7 +119,7 @@ room_peer (zone.Conn spec key) room asked z call journal can = elim can.taken.ke
 room_peer (zone.Peer spec line) room asked z call journal can = omega (arith, can.room_left, can.taken.kept.room_is, own-length journal.log (peer_part z asked) can.taken.kept.mine can.taken.part, peer_few z asked)
 
 pub may_peer : (spec : ZoneSpec) (room : ℕ) (asked : List Exchange) (z : ℕ) (call : PeerCall) (journal : Recorded PeerWords PeerEntry) → CanTake (Peer journal) spec room asked (to.Peer z call) → peer.Permits (own journal.log 0) call
-may_peer spec room asked z call journal can = permits_peer z asked journal.log call can.taken.part can.may
+may_peer spec room asked z call journal can = permits_peer 0 z asked journal.log call can.taken.part can.may
 
 pub taken_peer : (spec : ZoneSpec) (room : ℕ) (asked : List Exchange) (z : ℕ) (call : PeerCall) (reply : PeerReply) (journal new : Recorded PeerWords PeerEntry)
     → CanTake (Peer journal) spec room asked (to.Peer z call) → new.room ≡ journal.room → new.log ≡ journal.log ++ entry 0 call reply ∷ []
@@ -133,5 +133,5 @@ taken_peer (zone.Peer spec line) room asked z call reply journal new can room_is
     ran = ran (peer_opened spec) can.taken.kept.ran;
     mine = subst (λ (l : List PeerEntry). All (λ (e : PeerEntry). e.caller < 1) l) (sym log_is) (All-push (λ (e : PeerEntry). e.caller < 1) journal.log (entry 0 call reply) can.taken.kept.mine (omega arith));
   };
-  part = subst (λ (l : List PeerEntry). HasPart (asked ++ record { call = to.Peer z call; reply = from.Peer reply } ∷ []) 0 z (peer_log l)) (sym log_is) (peer_grows asked journal.log z call reply can.taken.part);
+  part = subst (λ (l : List PeerEntry). HasPart (asked ++ record { call = to.Peer z call; reply = from.Peer reply } ∷ []) 0 z (peer_log l)) (sym log_is) (peer_grows asked journal.log (journal.log ++ entry 0 call reply ∷ []) 0 z call reply (own-added journal.log 0 call reply) can.taken.part);
 }

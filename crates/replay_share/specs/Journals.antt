@@ -1,6 +1,5 @@
 -- Zones with the journals of their calls, as one caller has them.
-use Rattle.std.specs.Prelude.{ℕ, ◌≡◌, ◌<◌, List, map, Option, Some, None, slice_get}
-use Rattle.std.specs.List.{All}
+use Rattle.std.specs.Prelude.{ℕ, ◌≡◌, List, Option}
 use Rattle.zone_object.specs.History.{Recorded, HasRun}
 use Rattle.req_zone.specs.declared.words.ReqWords.{ReqWords}
 use Rattle.req_zone.specs.Object as req
@@ -18,11 +17,10 @@ use Rattle.zone_config.specs.declared.data.ZoneSpec.{ZoneSpec}
 use Rattle.zone_config.specs.declared.data.ZoneSpec.TheVariants as zone
 use Rattle.request_script.specs.declared.call.ZoneCall.{ZoneCall}
 use Rattle.request_script.specs.Turn.{Exchange}
-use Rattle.request_script.specs.Permitted.{MayAsk, IsOfKind, zone_of, calls_to}
-use Rattle.replay_share.specs.Calls.{IsWith}
 use Rattle.replay_share.specs.declared.journal.ZoneJournal.{ZoneJournal}
 use Rattle.replay_share.specs.declared.journal.ZoneJournal.TheVariants.{Req, Conn, Peer}
-use Rattle.replay_share.specs.Logs.{ReqEntry, ConnEntry, PeerEntry, ZoneLog, req_opened, conn_opened, peer_opened, HasCallersBelow, HasPart, HasParts}
+use Rattle.replay_share.specs.Logs.{ReqEntry, ConnEntry, PeerEntry, ZoneLog, req_opened, conn_opened, peer_opened, HasCallersBelow}
+use Rattle.replay_share.specs.Asked.{IsAt, HasAsked, HasTaken, MayTake}
 use Rattle.replay_share.specs.Logs.ZoneLog.{req_log, conn_log, peer_log}
 
 -- ---- one zone
@@ -59,28 +57,24 @@ log_of (Peer journal) = peer_log journal.log
 
 -- ---- all zones
 
+-- whichever zone it is
+abbrev pub HasJournal : ℕ → ℕ → ZoneSpec → ZoneJournal → Type 0
+HasJournal room z spec journal = IsJournalOf spec room journal
+
 -- a journal at its place among the journals of all zones
 abbrev pub IsJournalAt : ℕ → Option ZoneSpec → Option ZoneJournal → Type 0
-IsJournalAt room (Some spec) (Some journal) = IsJournalOf spec room journal
-IsJournalAt room None None = Unit {0}
-IsJournalAt room _ _ = ⊥
+IsJournalAt room spec journal = IsAt (HasJournal room 0) spec journal
 
 -- The zones with their journals, which have what caller 0 asked.
-pub record Serves (journals : List ZoneJournal) (zones : List ZoneSpec) (room : ℕ) (asked : List Exchange) : Type 0 where
-  pub each : (z : ℕ) → IsJournalAt room (slice_get zones z) (slice_get journals z)
-  pub parts : HasParts asked 0 (map log_of journals)
-  pub kinds : All (IsWith zones) asked
+abbrev pub Serves : List ZoneJournal → List ZoneSpec → ℕ → List Exchange → Type 0
+Serves journals zones room asked = HasAsked (HasJournal room) log_of 0 journals zones asked
 
 -- ---- a call
 
 -- the journal has what caller 0 asked of the zone that a call goes to
-pub record TakesAs (journal : ZoneJournal) (spec : ZoneSpec) (room : ℕ) (asked : List Exchange) (call : ZoneCall) : Type 0 where
-  pub kept : IsJournalOf spec room journal
-  pub part : HasPart asked 0 (zone_of call) (log_of journal)
+abbrev pub TakesAs : ZoneJournal → ZoneSpec → ℕ → List Exchange → ZoneCall → Type 0
+TakesAs journal spec room asked call = HasTaken (HasJournal room) log_of 0 journal spec asked call
 
 -- and the call may be made
-pub record CanTake (journal : ZoneJournal) (spec : ZoneSpec) (room : ℕ) (asked : List Exchange) (call : ZoneCall) : Type 0 where
-  pub taken : TakesAs journal spec room asked call
-  pub kind : IsOfKind (Some spec) call
-  pub room_left : calls_to (zone_of call) asked < room
-  pub may : MayAsk asked call
+abbrev pub CanTake : ZoneJournal → ZoneSpec → ℕ → List Exchange → ZoneCall → Type 0
+CanTake journal spec room asked call = MayTake (HasJournal room) log_of 0 journal spec room asked call

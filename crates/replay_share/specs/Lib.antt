@@ -1,5 +1,6 @@
 pub mod Logs
 pub mod Calls
+pub mod Asked
 pub mod Journals
 pub mod Opening
 pub mod Share

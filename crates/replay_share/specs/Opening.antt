@@ -4,17 +4,21 @@ use Rattle.zone_object.specs.History.{Recorded}
 use Rattle.zone_config.specs.declared.data.ReqData.{ReqData}
 use Rattle.zone_config.specs.declared.data.ConnData.{ConnData}
 use Rattle.zone_config.specs.declared.data.PeerData.{PeerData}
-use Rattle.req_zone.specs.declared.words.ReqWords.{ReqWords}
-use Rattle.conn_zone.specs.Layout.{Zone}
 use Rattle.zone_config.specs.declared.data.ZoneSpec.{ZoneSpec}
 use Rattle.zone_config.specs.declared.data.ZoneSpec.TheVariants.{Req, Conn, Peer}
+use Rattle.req_zone.specs.declared.words.ReqWords.{ReqWords}
+use Rattle.req_zone.specs.Object as req
+use Rattle.req_zone.specs.Lays as req_words
+use Rattle.conn_zone.specs.Object as conn
+use Rattle.conn_zone.specs.Layout as conn_words
 use Rattle.peer_zone.specs.declared.words.PeerWords.{PeerWords}
-use Rattle.peer_zone.specs.Opening.{refused_server}
+use Rattle.peer_zone.specs.Opening as opening
+use Rattle.peer_zone.specs.Lays as peer_words
 use Rattle.request_script.specs.ZoneSpecs.{peer_spec}
 use Rattle.replay_share.specs.declared.journal.ZoneJournal.{ZoneJournal}
 use Rattle.replay_share.specs.declared.opening.OpeningFault.{OpeningFault}
 use Rattle.replay_share.specs.declared.opening.OpeningFault.TheVariants.{Refused, NoMemory}
-use Rattle.replay_share.specs.Logs.{ReqEntry, ConnEntry, PeerEntry, HasPart}
+use Rattle.replay_share.specs.Logs.{ReqEntry, ConnEntry, PeerEntry, HasPart, req_opened, conn_opened, peer_opened}
 use Rattle.replay_share.specs.Journals.{RunsReq, RunsConn, RunsPeer, IsJournalOf, Serves, log_of}
 
 -- a line, where a server is refused a block
@@ -26,7 +30,7 @@ line_if_refused line (Some server) = Some line
 abbrev pub refused_at : ZoneSpec → Option ℕ
 refused_at (Req spec key) = None
 refused_at (Conn spec key) = None
-refused_at (Peer spec line) = line_if_refused line (refused_server (peer_spec spec))
+refused_at (Peer spec line) = line_if_refused line (opening.refused_server (peer_spec spec))
 
 -- the first of two that is there
 abbrev pub first_of : Option ℕ → Option ℕ → Option ℕ
@@ -45,18 +49,36 @@ pub record IsFresh (spec : ZoneSpec) (room : ℕ) (journal : ZoneJournal) : Type
   pub kept : IsJournalOf spec room journal
   pub nothing : (z : ℕ) → HasPart [] 0 z (log_of journal)
 
--- a request zone, and a connection zone
-abbrev pub OpensReq : ReqData → ℕ → Recorded ReqWords ReqEntry → Type 0
-OpensReq spec room journal = RunsReq spec room journal × (journal.log ≡ [])
+-- a zone of each kind that lays out the state of one that was just opened
+pub record IsNewReq (spec : ReqData) (zone : ReqWords) : Type 0 where
+  pub quiet : req.IsOpened (req_opened spec)
+  pub laid : req_words.Lays zone (req_opened spec)
 
-abbrev pub OpensConn : ConnData → ℕ → Recorded Zone ConnEntry → Type 0
-OpensConn spec room journal = RunsConn spec room journal × (journal.log ≡ [])
+pub record IsNewConn (spec : ConnData) (zone : conn_words.Zone) : Type 0 where
+  pub quiet : conn.IsOpened (conn_opened spec)
+  pub laid : conn_words.Lays zone (conn_opened spec)
 
--- an upstream's zone: its journal, or that it has no block for a server
-abbrev pub OpensPeer : PeerData → ℕ → ℕ → Result (Recorded PeerWords PeerEntry) OpeningFault → Type 0
-OpensPeer spec line room (Ok journal) = RunsPeer spec room journal × (journal.log ≡ []) × (refused_server (peer_spec spec) ≡ None)
-OpensPeer spec line room (Err (Refused at)) = IsSome (refused_server (peer_spec spec)) × (at ≡ line)
-OpensPeer spec line room (Err NoMemory) = Unit {0}
+pub record IsNewPeer (spec : PeerData) (zone : PeerWords) : Type 0 where
+  pub quiet : opening.IsOpened (peer_opened spec)
+  pub laid : peer_words.Lays zone (peer_opened spec)
+
+-- an upstream's zone, or that it has no block for a server
+abbrev pub OpensPeer : PeerData → ℕ → Result PeerWords OpeningFault → Type 0
+OpensPeer spec line (Ok zone) = IsNewPeer spec zone × (opening.refused_server (peer_spec spec) ≡ None)
+OpensPeer spec line (Err (Refused at)) = IsSome (opening.refused_server (peer_spec spec)) × (at ≡ line)
+OpensPeer spec line (Err NoMemory) = Unit {0}
+
+-- a zone of each kind with its journal, of which nothing was asked yet
+abbrev pub BeginsReq : ReqData → ℕ → Recorded ReqWords ReqEntry → Type 0
+BeginsReq spec room journal = RunsReq spec room journal × (journal.log ≡ [])
+
+abbrev pub BeginsConn : ConnData → ℕ → Recorded conn_words.Zone ConnEntry → Type 0
+BeginsConn spec room journal = RunsConn spec room journal × (journal.log ≡ [])
+
+abbrev pub BeginsPeer : PeerData → ℕ → ℕ → Result (Recorded PeerWords PeerEntry) OpeningFault → Type 0
+BeginsPeer spec line room (Ok journal) = RunsPeer spec room journal × (journal.log ≡ []) × (opening.refused_server (peer_spec spec) ≡ None)
+BeginsPeer spec line room (Err (Refused at)) = IsSome (opening.refused_server (peer_spec spec)) × (at ≡ line)
+BeginsPeer spec line room (Err NoMemory) = Unit {0}
 
 -- any zone
 abbrev pub OpensZone : ZoneSpec → ℕ → Result ZoneJournal OpeningFault → Type 0

@@ -21,10 +21,17 @@ abbrev pub decision_of : Decided → Decision
 decision_of d = d.decision
 
 -- the connection of a line is worker k's, of so many workers
+abbrev pub goes_to : ℕ → ℕ → Line → Bool
+goes_to workers k line = nat_eq (line.conn % workers) k
+
 abbrev pub is_for : ℕ → ℕ → Decided → Bool
-is_for workers k d = nat_eq (d.line.conn % workers) k
+is_for workers k d = goes_to workers k d.line
 
 -- the lines of worker k, in the order of the log
+abbrev pub lines_of : ℕ → ℕ → List Line → List Line
+lines_of workers k lines = filter (goes_to workers k) lines
+
+-- and with what was decided of them
 abbrev pub share_of : ℕ → ℕ → List Decided → List Decided
 share_of workers k decided = filter (is_for workers k) decided
 

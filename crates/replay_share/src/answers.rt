@@ -8,13 +8,14 @@ use request_script::{ZoneCall, ZoneReply};
 
 /// What answers the calls of a share: the zones of a configuration, as one caller sees them.
 pub trait Answers {
-    /// These zones, each with room for so many calls of the caller, were asked this by the caller. It tells the order of the
-    /// calls to each zone; that of calls to different zones is kept nowhere.
-    ghost serves: { Self → List ZoneSpec → ℕ → List Exchange → Type 0 };
+    /// What began as the first and is now the second answers for these zones, each with room for so many calls of the caller,
+    /// and was asked this by the caller. It tells the order of the calls to each zone; that of calls to different zones is
+    /// kept nowhere.
+    ghost serves: { Self → Self → List ZoneSpec → ℕ → List Exchange → Type 0 };
 
     /// Makes a call. It takes no memory.
     fn ask(&mut self, call: ZoneCall) -> ZoneReply
-        requires { (zones : List ZoneSpec) × (room : ℕ) × (asked : List Exchange) × serves self.old zones room asked × CanAsk zones room asked call }
-        ensures served { (zones : List ZoneSpec) (room : ℕ) (asked : List Exchange) → serves self.old zones room asked → CanAsk zones room asked call → serves self.new zones room (asked ++ record { call = call; reply = result } ∷ []) }
+        requires { (start : Self) × (zones : List ZoneSpec) × (room : ℕ) × (asked : List Exchange) × serves start self.old zones room asked × CanAsk zones room asked call }
+        ensures served { (start : Self) (zones : List ZoneSpec) (room : ℕ) (asked : List Exchange) → serves start self.old zones room asked → CanAsk zones room asked call → serves start self.new zones room (asked ++ record { call = call; reply = result } ∷ []) }
         ensures range { IsInRange result };
 }

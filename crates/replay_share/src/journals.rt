@@ -7,7 +7,7 @@ use request_script::{ZoneCall, ZoneReply};
 use std::marker::Model;
 
 /// The number of the zone that a call goes to.
-fn zone_of(call: &ZoneCall) -> u32
+pub fn zone_of(call: &ZoneCall) -> u32
     ensures { result ≡ zone_of call.now }
 {
     match call {
@@ -46,7 +46,7 @@ impl Journals {
 impl Answers for Journals {
     ghost use Rattle.replay_share.specs.Journals.{Serves};
 
-    ghost serves = { Serves };
+    ghost serves = { λ start. Serves };
 
     fn ask(&mut self, call: ZoneCall) -> ZoneReply {
         let zone = zone_of(&call) as usize;

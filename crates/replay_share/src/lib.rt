@@ -10,6 +10,6 @@ pub mod theorems;
 
 pub use answers::Answers;
 pub use journal::ZoneJournal;
-pub use journals::Journals;
-pub use opening::{OpeningFault, refused_line};
+pub use journals::{Journals, zone_of};
+pub use opening::{OpeningFault, open_conn, open_peer, open_req, refused_line};
 pub use share::replay_share;

@@ -3,7 +3,7 @@ ghost use Rattle.peer_zone.specs.Opening.{refused_server};
 ghost use Rattle.request_script.specs.ZoneSpecs.{peer_spec as spec_of_peer};
 ghost use Rattle.std.specs.List.{All};
 ghost use Rattle.zone_config.specs.Conditions.{AreZones, IsZone, IsWithin, IsZoneSpec, HasServers, HasOwnServers};
-ghost use Rattle.replay_share.specs.Opening.{OpensReq, OpensConn, OpensPeer, OpensZone, OpensZones, refused_at, refused_line};
+ghost use Rattle.replay_share.specs.Opening.{IsNewReq, IsNewConn, BeginsReq, BeginsConn, BeginsPeer, OpensPeer, OpensZone, OpensZones, refused_at, refused_line};
 
 use crate::journal::ZoneJournal;
 use crate::journals::Journals;
@@ -39,35 +39,69 @@ impl From<NoMemory> for OpeningFault {
     }
 }
 
-/// Opens a request zone, with room for so many calls.
-fn open_req(alloc: Global, given: &ReqData, room: u32) -> Result<Journal<ReqZone>, NoMemory>
+/// Opens a request zone.
+pub fn open_req(alloc: Global, given: &ReqData) -> Result<ReqZone, NoMemory>
     requires zone { IsZone given.now.name given.now.bytes given.now.page_shift }
     requires rate { IsWithin 1 1000000000 given.now.rate }
-    ensures { IfOk result (OpensReq given.now room) }
+    ensures { IfOk result (IsNewReq given.now) }
 {
     let spec = req_spec(alloc, given)?;
     match ReqZone::open(alloc, &spec) {
-        Ok(zone) => Journal::new(alloc, zone, room),
+        Ok(zone) => Ok(zone),
         Err(req_zone::OpenFault::NoMemory) => Err(NoMemory),
         Err(req_zone::OpenFault::TooSmall) => unreachable!(),
     }
 }
 
-/// Opens a connection zone, with room for so many calls.
-fn open_conn(alloc: Global, given: &ConnData, room: u32) -> Result<Journal<ConnZone>, NoMemory>
+/// Opens a connection zone.
+pub fn open_conn(alloc: Global, given: &ConnData) -> Result<ConnZone, NoMemory>
     requires { IsZone given.now.name given.now.bytes given.now.page_shift }
-    ensures { IfOk result (OpensConn given.now room) }
+    ensures { IfOk result (IsNewConn given.now) }
 {
     let spec = conn_spec(alloc, given)?;
     match ConnZone::open(alloc, spec) {
-        Ok(zone) => Journal::new(alloc, zone, room),
+        Ok(zone) => Ok(zone),
         Err(conn_zone::OpenFault::NoMemory) => Err(NoMemory),
         Err(conn_zone::OpenFault::TooSmall) => unreachable!(),
     }
 }
 
+/// Opens an upstream's zone, which stands at this line. `Refused` comes exactly where it has no block for one of its servers.
+pub fn open_peer(alloc: Global, given: &PeerData, line: u64) -> Result<PeerZone, OpeningFault>
+    requires zone { IsZone given.now.name given.now.bytes given.now.page_shift }
+    requires servers { HasServers given.now }
+    ensures { OpensPeer given.now line result }
+{
+    let spec = peer_spec(alloc, given)?;
+    match PeerZone::open(alloc, spec) {
+        Ok(zone) => Ok(zone),
+        Err(peer_zone::OpenFault::Small { server: _ }) => Err(OpeningFault::Refused { line }),
+        Err(peer_zone::OpenFault::NoMemory) => Err(OpeningFault::NoMemory),
+        Err(peer_zone::OpenFault::TooSmall) => unreachable!(),
+    }
+}
+
+/// Opens a request zone, with room for so many calls.
+fn begin_req(alloc: Global, given: &ReqData, room: u32) -> Result<Journal<ReqZone>, NoMemory>
+    requires zone { IsZone given.now.name given.now.bytes given.now.page_shift }
+    requires rate { IsWithin 1 1000000000 given.now.rate }
+    ensures { IfOk result (BeginsReq given.now room) }
+{
+    let zone = open_req(alloc, given)?;
+    Ok(Journal::new(alloc, zone, room)?)
+}
+
+/// Opens a connection zone, with room for so many calls.
+fn begin_conn(alloc: Global, given: &ConnData, room: u32) -> Result<Journal<ConnZone>, NoMemory>
+    requires { IsZone given.now.name given.now.bytes given.now.page_shift }
+    ensures { IfOk result (BeginsConn given.now room) }
+{
+    let zone = open_conn(alloc, given)?;
+    Ok(Journal::new(alloc, zone, room)?)
+}
+
 /// Opens an upstream's zone of this line, with room for so many calls.
-fn open_peer(
+fn begin_peer(
     alloc: Global,
     given: &PeerData,
     line: u64,
@@ -75,14 +109,11 @@ fn open_peer(
 ) -> Result<Journal<PeerZone>, OpeningFault>
     requires zone { IsZone given.now.name given.now.bytes given.now.page_shift }
     requires servers { HasServers given.now }
-    ensures { OpensPeer given.now line room result }
+    ensures { BeginsPeer given.now line room result }
 {
-    let spec = peer_spec(alloc, given)?;
-    match PeerZone::open(alloc, spec) {
+    match open_peer(alloc, given, line) {
         Ok(zone) => Ok(Journal::new(alloc, zone, room)?),
-        Err(peer_zone::OpenFault::Small { server: _ }) => Err(OpeningFault::Refused { line }),
-        Err(peer_zone::OpenFault::NoMemory) => Err(OpeningFault::NoMemory),
-        Err(peer_zone::OpenFault::TooSmall) => unreachable!(),
+        Err(fault) => Err(fault),
     }
 }
 
@@ -98,13 +129,13 @@ pub(crate) fn open_zone(
 {
     Ok(match spec {
         ZoneSpec::Req { spec, key: _ } => ZoneJournal::Req {
-            journal: open_req(alloc, spec, room)?,
+            journal: begin_req(alloc, spec, room)?,
         },
         ZoneSpec::Conn { spec, key: _ } => ZoneJournal::Conn {
-            journal: open_conn(alloc, spec, room)?,
+            journal: begin_conn(alloc, spec, room)?,
         },
         ZoneSpec::Peer { spec, line } => ZoneJournal::Peer {
-            journal: open_peer(alloc, spec, *line, room)?,
+            journal: begin_peer(alloc, spec, *line, room)?,
         },
     })
 }
@@ -115,7 +146,7 @@ fn is_refused(alloc: Global, given: &PeerData) -> Result<bool, NoMemory>
     requires servers { HasServers given.now }
     ensures { IfOk result (λ refused. refused ≡ is_some (refused_server (spec_of_peer given.now))) }
 {
-    match open_peer(alloc, given, 0, 0) {
+    match open_peer(alloc, given, 0) {
         Ok(_) => Ok(false),
         Err(OpeningFault::Refused { line: _ }) => Ok(true),
         Err(OpeningFault::NoMemory) => Err(NoMemory),

@@ -1,0 +1,9 @@
+pub mod Calling
+pub mod ColumnCells
+pub mod Asking
+pub mod RoomFor
+pub mod InOrder
+pub mod Turning
+pub mod Ended
+pub mod NewPasses
+pub mod Outcome

@@ -1,0 +1,6 @@
+use Rattle.std.proofs.Common.{◌≡◌, ◌++◌, map}
+use Rattle.replay_workers.specs.declared.passes.ZonePass.TheVariants.{Peer}
+use Rattle.replay_workers.proofs.closing.close_peer.Given as goal
+
+abbrev pub invariant-loop-pass : goal.invariant-loop-pass
+invariant-loop-pass g l = map Peer l.passes.items ++ l.pass-iterator.rest.items ≡ l.fn.column.items
