@@ -1,15 +1,15 @@
 -- A worker's passes: the one that a call goes to, and all of them after it.
-use Rattle.std.proofs.Common.{ℕ, ◌≡◌, ◌<◌, ◌≤◌, List, [], ◌∷◌, ◌++◌, length, map, get_or, set, subst, sym, ap, refl, ◌∙◌, arith}
+use Rattle.std.proofs.Common.{ℕ, ◌≡◌, ◌<◌, ◌≤◌, List, [], ◌∷◌, ◌++◌, length, get_or, set, subst, sym, ap, refl, ◌∙◌}
 use Rattle.std.specs.Prelude.{Option, Some, None, slice_get, slice_index}
 use Rattle.std.specs.Option.{option_map}
-use Rattle.std.proofs.lemmas.Option.{slice_get-map, slice_get_within, slice_get-get_or, get_or_from_slice_get}
+use Rattle.std.proofs.lemmas.Option.{slice_get-map, slice_get_within, get_or_from_slice_get}
 use Rattle.zone_config.specs.declared.data.ZoneSpec.{ZoneSpec}
 use Rattle.request_script.specs.declared.call.ZoneCall.{ZoneCall}
 use Rattle.request_script.specs.declared.call.ZoneReply.{ZoneReply}
 use Rattle.request_script.specs.Turn.{Exchange}
 use Rattle.request_script.specs.Permitted.{zone_of}
 use Rattle.replay_share.specs.Calls.{CanAsk, IsReplyTo}
-use Rattle.replay_share.specs.Asked.{IsAt, HasAsked}
+use Rattle.replay_share.specs.Asked.{IsAt}
 use Rattle.replay_share.proofs.Serving.{Finds, finds, serves-after, can_at, at_set}
 use Rattle.replay_workers.specs.declared.passes.Shared.{Shared}
 use Rattle.replay_workers.specs.declared.passes.ZonePass.{ZonePass}

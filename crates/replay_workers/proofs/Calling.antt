@@ -1,6 +1,6 @@
 -- A call through a pass: it is one of its zone, has room and is permitted, and has made the call afterwards.
-use Rattle.std.proofs.Common.{ℕ, ◌≡◌, ◌+◌, ◌<◌, ◌≤◌, List, [], ◌∷◌, ◌++◌, length, map, subst, sym, ap, refl, ◌∙◌, arith}
-use Rattle.std.specs.Prelude.{Option, Some, slice_get, slice_index}
+use Rattle.std.proofs.Common.{ℕ, ◌≡◌, ◌<◌, ◌≤◌, List, [], ◌∷◌, ◌++◌, length, map, subst, sym, ap, ◌∙◌, arith}
+use Rattle.std.specs.Prelude.{Some, slice_get, slice_index}
 use Rattle.zone_object.specs.declared.object.Entry.{Entry}
 use Rattle.zone_object.specs.History.{entry, own}
 use Rattle.shared_zone.specs.Callers.{ZoneId, Zone, Caller, made, HasRoom, IsSameCaller}
@@ -24,12 +24,11 @@ use Rattle.request_script.specs.Turn.{Exchange}
 use Rattle.request_script.specs.Drive.{req_part, conn_part, peer_part}
 use Rattle.request_script.specs.Permitted.{calls_to}
 use Rattle.replay_share.specs.Logs.{ReqEntry, ConnEntry, PeerEntry, req_opened, conn_opened, peer_opened}
-use Rattle.replay_share.specs.Logs.ZoneLog.{req_log, conn_log, peer_log}
 use Rattle.replay_share.proofs.Parts.{made-length, req_few, conn_few, peer_few, req_grows, conn_grows, peer_grows}
 use Rattle.replay_share.proofs.Taking.{permits_req, permits_conn, permits_peer}
 use Rattle.replay_workers.specs.declared.passes.Shared.TheVariants as shared
 use Rattle.replay_workers.specs.declared.passes.ZonePass.TheVariants.{Req, Conn, Peer}
-use Rattle.replay_workers.specs.Passes.{Place, IsCallerOf, IsPassOf, MayCall, HasCalled, id_of}
+use Rattle.replay_workers.specs.Passes.{Place, IsCallerOf, MayCall, HasCalled, id_of}
 
 module _ {St : Type 0} where
   -- the pass is the same

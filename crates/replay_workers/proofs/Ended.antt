@@ -1,6 +1,6 @@
 -- A zone that is closed with all its passes.
-use Rattle.std.proofs.Common.{ℕ, zero, suc, ◌≡◌, ◌≢◌, ◌+◌, ◌<◌, ◌≤◌, ◌⊎◌, inl, inr, Bool, true, false, List, [], ◌∷◌, ◌++◌, length, map, get_or, Vec, Global, subst, sym, ap, refl, ◌∙◌, arith}
-use Rattle.std.specs.Prelude.{◌==◌, Option, Some, None, slice_get}
+use Rattle.std.proofs.Common.{ℕ, ◌≡◌, ◌<◌, ◌≤◌, ◌⊎◌, inl, inr, Bool, true, false, List, [], ◌∷◌, ◌++◌, length, map, get_or, Vec, Global, subst, sym, ap, refl, ◌∙◌, arith}
+use Rattle.std.specs.Prelude.{Option, Some, slice_get}
 use Rattle.std.specs.Option.{option_map}
 use Rattle.std.specs.List.{All}
 use Rattle.std.proofs.lemmas.Bool.Decides.{nat_tests}
@@ -9,7 +9,7 @@ use Rattle.std.proofs.lemmas.List.Elements.{All-nil, All-cons}
 use Rattle.std.proofs.lemmas.Option.{slice_get-map, slice_get_within, slice_get-get_or, get_or_from_slice_get}
 use Rattle.zone_object.specs.declared.object.Entry.{Entry}
 use Rattle.zone_object.specs.History.{own, is_of, HasRun}
-use Rattle.shared_zone.specs.Callers.{ZoneId, Zone, Caller, made, Keeps, HasRunOf}
+use Rattle.shared_zone.specs.Callers.{ZoneId, Zone, Caller, Keeps, HasRunOf}
 use Rattle.req_zone.specs.declared.state.ReqState.{ReqState}
 use Rattle.req_zone.specs.declared.words.ReqWords.{ReqWords}
 use Rattle.req_zone.specs.Object as req
@@ -35,7 +35,7 @@ use Rattle.replay_workers.specs.declared.passes.Shared.TheVariants as shared
 use Rattle.replay_workers.specs.declared.passes.ZonePass.{ZonePass}
 use Rattle.replay_workers.specs.declared.passes.ZonePass.TheVariants.{Req, Conn, Peer}
 use Rattle.replay_workers.specs.declared.history.ZoneHistory.TheVariants as history
-use Rattle.replay_workers.specs.Passes.{Place, IsCallerOf, IsPassOf, IsSharedOf, id_of, seen_by}
+use Rattle.replay_workers.specs.Passes.{IsCallerOf, IsPassOf, IsSharedOf, id_of, seen_by}
 use Rattle.replay_workers.specs.Columns.{AreAt, IsReq, IsConn, IsPeer, IsClosed, HasOwn}
 use Rattle.replay_workers.proofs.Turning.{there_at, low_or}
 
@@ -60,8 +60,8 @@ module _ {X St C R : Type 0} where
   rest_none : (e : Entry X St C R) (es : List (Entry X St C R)) (who : ℕ) → own (e ∷ es) who ≡ [] → own es who ≡ []
   rest_none e es who none =
       let f : (t : Bool) → is_of who e ≡ t → own es who ≡ [] = elim [
-        true ↦ λ is. let more : own (e ∷ es) who ≡ e ∷ own es who = rw is refl in absurd (omega (arith, ap length (sym more ∙ none)))
-      | false ↦ λ is. let same : own (e ∷ es) who ≡ own es who = rw is refl in sym same ∙ none
+        | true ↦ λ is. let more : own (e ∷ es) who ≡ e ∷ own es who = rw is refl in absurd (omega (arith, ap length (sym more ∙ none)))
+        | false ↦ λ is. let same : own (e ∷ es) who ≡ own es who = rw is refl in sym same ∙ none
       ] in
       f (is_of who e) refl
 
@@ -128,6 +128,7 @@ pub not_req_conn : (zones : List Shared) (rooms : List ℕ) (z j : ℕ) (spec : 
 not_req_conn zones rooms z j (zone.Req spec key) pass kind h = h
 not_req_conn zones rooms z j (zone.Conn spec key) pass kind h = elim kind [ ]
 not_req_conn zones rooms z j (zone.Peer spec line) pass kind h = elim kind [ ]
+
 pub not_req_peer : (zones : List Shared) (rooms : List ℕ) (z j : ℕ) (spec : ZoneSpec) (pass : Caller PeerState PeerEntry) → IsReq spec → IsPassOf (record { zones = zones; rooms = rooms; who = j }) z spec (Peer pass) → ⊥
 not_req_peer zones rooms z j (zone.Req spec key) pass kind h = h
 not_req_peer zones rooms z j (zone.Conn spec key) pass kind h = elim kind [ ]
@@ -151,7 +152,7 @@ req_zone id zones rooms z (zone.Peer spec line) column passes kind there some at
 pub req_closed : (id : ZoneId) (zones : List Shared) (rooms : List ℕ) (z : ℕ) (spec : ZoneSpec) (column : List ZonePass) (passes : List (Caller ReqState ReqEntry)) → IsReq spec → slice_get (map id_of zones) z ≡ Some id → 0 < length rooms → AreAt zones rooms z spec column → map Req passes ≡ column
     → (object : ReqWords) (log : Vec ReqEntry Global) → All (λ pass. HasRunOf req.IsOpened req_words.Lays req.answer_of req.zone_after req.Permits pass.zone object log.items) passes → All (Keeps log.items) passes → All (λ pass. (who : ℕ) → length pass.zone.rooms ≤ who → own log.items who ≡ []) passes
     → IsClosed rooms spec column (history.Req object log)
-req_closed id zones rooms z (zone.Req spec key) column passes kind there some at same object log runs keeps others = 
+req_closed id zones rooms z (zone.Req spec key) column passes kind there some at same object log runs keeps others =
     let mine = (req_mine id zones rooms z spec key passes there (subst (λ (l : List ZonePass). (k : ℕ) (pass : ZonePass) → slice_get l k ≡ Some pass → IsPassOf (record { zones = zones; rooms = rooms; who = k }) z (zone.Req spec key) pass) (sym same) at.each)) in
     let many : 0 < length passes = omega (arith, some, at.count, ap length same, length-map passes Req) in
     record {
@@ -169,6 +170,7 @@ pub not_conn_req : (zones : List Shared) (rooms : List ℕ) (z j : ℕ) (spec : 
 not_conn_req zones rooms z j (zone.Req spec key) pass kind h = elim kind [ ]
 not_conn_req zones rooms z j (zone.Conn spec key) pass kind h = h
 not_conn_req zones rooms z j (zone.Peer spec line) pass kind h = elim kind [ ]
+
 pub not_conn_peer : (zones : List Shared) (rooms : List ℕ) (z j : ℕ) (spec : ZoneSpec) (pass : Caller PeerState PeerEntry) → IsConn spec → IsPassOf (record { zones = zones; rooms = rooms; who = j }) z spec (Peer pass) → ⊥
 not_conn_peer zones rooms z j (zone.Req spec key) pass kind h = elim kind [ ]
 not_conn_peer zones rooms z j (zone.Conn spec key) pass kind h = h
@@ -193,7 +195,7 @@ pub conn_closed : (id : ZoneId) (zones : List Shared) (rooms : List ℕ) (z : �
     → (object : conn_words.Zone) (log : Vec ConnEntry Global) → All (λ pass. HasRunOf conn.IsOpened conn_words.Lays conn.answer_of conn.zone_after conn.Permits pass.zone object log.items) passes → All (Keeps log.items) passes → All (λ pass. (who : ℕ) → length pass.zone.rooms ≤ who → own log.items who ≡ []) passes
     → IsClosed rooms spec column (history.Conn object log)
 conn_closed id zones rooms z (zone.Req spec key) column passes kind there some at same object log runs keeps others = elim kind [ ]
-conn_closed id zones rooms z (zone.Conn spec key) column passes kind there some at same object log runs keeps others = 
+conn_closed id zones rooms z (zone.Conn spec key) column passes kind there some at same object log runs keeps others =
     let mine = (conn_mine id zones rooms z spec key passes there (subst (λ (l : List ZonePass). (k : ℕ) (pass : ZonePass) → slice_get l k ≡ Some pass → IsPassOf (record { zones = zones; rooms = rooms; who = k }) z (zone.Conn spec key) pass) (sym same) at.each)) in
     let many : 0 < length passes = omega (arith, some, at.count, ap length same, length-map passes Conn) in
     record {
@@ -210,6 +212,7 @@ pub not_peer_req : (zones : List Shared) (rooms : List ℕ) (z j : ℕ) (spec : 
 not_peer_req zones rooms z j (zone.Req spec key) pass kind h = elim kind [ ]
 not_peer_req zones rooms z j (zone.Conn spec key) pass kind h = elim kind [ ]
 not_peer_req zones rooms z j (zone.Peer spec line) pass kind h = h
+
 pub not_peer_conn : (zones : List Shared) (rooms : List ℕ) (z j : ℕ) (spec : ZoneSpec) (pass : Caller ConnState ConnEntry) → IsPeer spec → IsPassOf (record { zones = zones; rooms = rooms; who = j }) z spec (Conn pass) → ⊥
 not_peer_conn zones rooms z j (zone.Req spec key) pass kind h = elim kind [ ]
 not_peer_conn zones rooms z j (zone.Conn spec key) pass kind h = elim kind [ ]
@@ -235,7 +238,7 @@ pub peer_closed : (id : ZoneId) (zones : List Shared) (rooms : List ℕ) (z : �
     → IsClosed rooms spec column (history.Peer object log)
 peer_closed id zones rooms z (zone.Req spec key) column passes kind there some at same object log runs keeps others = elim kind [ ]
 peer_closed id zones rooms z (zone.Conn spec key) column passes kind there some at same object log runs keeps others = elim kind [ ]
-peer_closed id zones rooms z (zone.Peer spec line) column passes kind there some at same object log runs keeps others = 
+peer_closed id zones rooms z (zone.Peer spec line) column passes kind there some at same object log runs keeps others =
     let mine = (peer_mine id zones rooms z spec line passes there (subst (λ (l : List ZonePass). (k : ℕ) (pass : ZonePass) → slice_get l k ≡ Some pass → IsPassOf (record { zones = zones; rooms = rooms; who = k }) z (zone.Peer spec line) pass) (sym same) at.each)) in
     let many : 0 < length passes = omega (arith, some, at.count, ap length same, length-map passes Peer) in
     record {

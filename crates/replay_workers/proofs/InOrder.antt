@@ -1,7 +1,7 @@
 -- The decisions of all workers, as far as they were put in the order of the lines.
 use Rattle.std.proofs.Common.{ℕ, zero, suc, ◌≡◌, ◌≢◌, ◌+◌, ◌*◌, ◌<◌, ◌≤◌, ◌%◌, ◌⊎◌, inl, inr, Bool, true, false, List, [], ◌∷◌, ◌++◌, length, map, take, get_or, set, replicate, subst, sym, ap, refl, ◌∙◌, arith, length-append, length-set, get_or-set_same, get_or-set_other}
 use Rattle.std.proofs.lemmas.List.{length-replicate, get_or-replicate}
-use Rattle.std.specs.Prelude.{nat_eq, slice_index, Option, Some, slice_get}
+use Rattle.std.specs.Prelude.{nat_eq, slice_index, Some, slice_get}
 use Rattle.std.proofs.Math.Nat.{mod-lt}
 use Rattle.std.proofs.Math.Seq.{take-length}
 use Rattle.std.proofs.lemmas.Bool.Decides.{nat_tests}
@@ -27,8 +27,8 @@ pub few-lines : (workers k : ℕ) (lines : List Line) → length (lines_of worke
 few-lines workers k [] = omega arith
 few-lines workers k (l ∷ ls) =
     let f : (t : Bool) → goes_to workers k l ≡ t → length (lines_of workers k (l ∷ ls)) ≤ length (l ∷ ls) = elim [
-      true ↦ λ e. let is : lines_of workers k (l ∷ ls) ≡ l ∷ lines_of workers k ls = rw e refl in omega (arith, ap length is, few-lines workers k ls)
-    | false ↦ λ e. let is : lines_of workers k (l ∷ ls) ≡ lines_of workers k ls = rw e refl in omega (arith, ap length is, few-lines workers k ls)
+      | true ↦ λ e. let is : lines_of workers k (l ∷ ls) ≡ l ∷ lines_of workers k ls = rw e refl in omega (arith, ap length is, few-lines workers k ls)
+      | false ↦ λ e. let is : lines_of workers k (l ∷ ls) ≡ lines_of workers k ls = rw e refl in omega (arith, ap length is, few-lines workers k ls)
     ] in
     f (goes_to workers k l) refl
 

@@ -1,9 +1,8 @@
 -- Zones that have just been opened, each with a pass for each worker.
-use Rattle.std.proofs.Common.{ℕ, zero, suc, ◌≡◌, ◌+◌, ◌<◌, ◌≤◌, ◌⊎◌, inl, inr, List, [], ◌∷◌, ◌++◌, length, map, take, drop, get_or, subst, sym, ap, refl, ◌∙◌, arith}
+use Rattle.std.proofs.Common.{ℕ, zero, suc, ◌≡◌, ◌<◌, ◌≤◌, ◌⊎◌, inl, inr, List, [], ◌∷◌, ◌++◌, length, map, subst, sym, ap, refl, ◌∙◌, arith}
 use Rattle.std.specs.Prelude.{Option, Some, None, slice_get}
-use Rattle.std.specs.Option.{option_map}
 use Rattle.std.proofs.lemmas.List.{length-map, length-append}
-use Rattle.std.proofs.lemmas.Option.{slice_get-map, slice_get_within, none-some}
+use Rattle.std.proofs.lemmas.Option.{slice_get_within, none-some}
 use Rattle.zone_object.specs.declared.object.Entry.{Entry}
 use Rattle.shared_zone.specs.Callers.{ZoneId, Caller, newcomer, Begins}
 use Rattle.req_zone.specs.declared.state.ReqState.{ReqState}
@@ -17,7 +16,6 @@ use Rattle.peer_zone.specs.declared.state.PeerState.{PeerState}
 use Rattle.peer_zone.specs.declared.words.PeerWords.{PeerWords}
 use Rattle.peer_zone.specs.Opening as opening
 use Rattle.peer_zone.specs.Lays as peer_words
-use Rattle.zone_key.specs.declared.expr.Expr.{Expr}
 use Rattle.zone_config.specs.declared.data.ReqData.{ReqData}
 use Rattle.zone_config.specs.declared.data.ConnData.{ConnData}
 use Rattle.zone_config.specs.declared.data.PeerData.{PeerData}
@@ -34,7 +32,7 @@ use Rattle.replay_workers.specs.Zones.{AreOpened}
 use Rattle.req_zone.specs.WordsLaws.{one_start-law as req_start}
 use Rattle.conn_zone.specs.Starting.{one_start-law as conn_start}
 use Rattle.peer_zone.specs.WordsLaws.{one_start-law as peer_start}
-use Rattle.replay_workers.proofs.Turning.{there_at, low_or, snoc_at, snoc_before}
+use Rattle.replay_workers.proofs.Turning.{low_or, snoc_at, snoc_before}
 use Rattle.replay_workers.proofs.Ended.{from_map}
 
 -- ---- one zone

@@ -13,25 +13,24 @@ use Rattle.replay_log.specs.declared.line.Line.{Line}
 use Rattle.request_script.specs.declared.decision.Decision.{Decision}
 use Rattle.request_script.specs.Turn.{Exchange}
 use Rattle.request_script.specs.Drive.{Table, nothing_active, Drives}
-use Rattle.replay_share.specs.Asked.{IsAt, HasAsked}
+use Rattle.replay_share.specs.Asked.{IsAt}
 use Rattle.replay_share.specs.Logs.{ZoneLog, IsLogOf, IsLogAt, HasPart, made_of}
 use Rattle.replay_share.specs.Logs.ZoneLog.{req_log, conn_log, peer_log}
-use Rattle.replay_share.specs.Replay.{Decided, line_of, decision_of, lines_of, share_of, HasPlayed, IsReplay}
+use Rattle.replay_share.specs.Replay.{Decided, line_of, decision_of, lines_of, share_of, HasPlayed}
 use Rattle.replay_share.proofs.Alone.{pairs as decided_pairs}
 use Rattle.replay_workers.specs.declared.passes.Shared.{Shared}
 use Rattle.replay_workers.specs.declared.passes.ZonePass.{ZonePass}
-use Rattle.replay_workers.specs.declared.passes.ZonePass.TheVariants.{Req, Conn, Peer}
 use Rattle.replay_workers.specs.declared.passes.Row.{Row}
 use Rattle.replay_workers.specs.declared.passes.Played.{Played}
 use Rattle.replay_workers.specs.declared.history.ZoneHistory.{ZoneHistory}
 use Rattle.replay_workers.specs.declared.history.ZoneHistory.TheVariants as history
-use Rattle.replay_workers.specs.Passes.{Place, Task, IsPassOf, IsSharedOf, IsFreshRow, HasWorked, AskedBy, place_of, seen_by, number_of_row, number_of_played, passes_of_row, passes_of_played}
+use Rattle.replay_workers.specs.Passes.{Task, IsPassOf, IsSharedOf, IsFreshRow, HasWorked, AskedBy, place_of, seen_by, number_of_row, number_of_played, passes_of_row, passes_of_played}
 use Rattle.replay_workers.specs.Columns.{IsRunOf, HasOwn, IsClosed, CanClose, log_of}
 use Rattle.replay_workers.specs.Zones.{AreOpened, AreColumns, AreClosed, HasReplayedAll}
 use Rattle.replay_workers.specs.Merging.{pairs, IsMerged}
-use Rattle.replay_workers.specs.Transposing.{at_place, cell, IsTransposed}
+use Rattle.replay_workers.specs.Transposing.{IsTransposed}
 use Rattle.replay_workers.proofs.InOrder.{lines-back, decisions-back, share-lines}
-use Rattle.replay_workers.proofs.Turning.{there_at, low_or, cell_in, row_is_fresh, row-length, columns_are_full, snoc_at, at_both}
+use Rattle.replay_workers.proofs.Turning.{there_at, low_or, cell_in, row_is_fresh, row-length, snoc_at, at_both}
 
 -- what is known of each element that is there
 all_by : {A : Type 0} → (P : A → Type 0) (xs : List A) → ((k : ℕ) (x : A) → slice_get xs k ≡ Some x → P x) → All P xs

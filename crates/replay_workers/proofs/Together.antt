@@ -1,18 +1,17 @@
 -- A replay's parts put together: zones that were opened, workers that have played, zones that are closed.
-use Rattle.std.proofs.Common.{ℕ, ◌≡◌, ◌*◌, ◌<◌, List, length, map, vec_items, vec_len, Vec, Global, subst, sym, ap, ◌∙◌, arith}
+use Rattle.std.proofs.Common.{ℕ, ◌≡◌, ◌*◌, ◌<◌, List, length, map, vec_items, vec_len, Vec, Global, subst, sym, ap, ◌∙◌}
 use Rattle.std.specs.Prelude.{Some, slice_get, slice_index}
 use Rattle.std.specs.List.{All}
 use Rattle.std.proofs.lemmas.List.{length-map}
 use Rattle.zone_config.specs.declared.data.ZoneSpec.{ZoneSpec}
 use Rattle.request_script.specs.declared.decision.Decision.{Decision}
 use Rattle.replay_share.specs.Replay.{lines_of}
-use Rattle.replay_share.specs.Asked.{IsAt}
 use Rattle.replay_workers.specs.declared.passes.Shared.{Shared}
 use Rattle.replay_workers.specs.declared.passes.ZonePass.{ZonePass}
 use Rattle.replay_workers.specs.declared.passes.Row.{Row}
 use Rattle.replay_workers.specs.declared.passes.Played.{Played}
 use Rattle.replay_workers.specs.declared.history.ZoneHistory.{ZoneHistory}
-use Rattle.replay_workers.specs.Passes.{Task, AreShared, IsFreshRow, HasWorked, IsSharedOf, number_of_row, number_of_played, passes_of_row, passes_of_played}
+use Rattle.replay_workers.specs.Passes.{Task, AreShared, IsFreshRow, HasWorked, number_of_row, number_of_played, passes_of_row, passes_of_played}
 use Rattle.replay_workers.specs.Zones.{AreOpened, AreColumns, AreClosed, HasReplayedAll}
 use Rattle.replay_workers.specs.Merging.{IsMerged}
 use Rattle.replay_workers.specs.Transposing.{IsTransposed}
@@ -53,7 +52,7 @@ module _ (task : Task) (rows : List Row) (played : List Played) (worked : All (H
 
     pub columns_back : AreColumns task.rooms task.config.zones task.zones (map vec_items columns)
     columns_back = columns_are_full task.rooms task.config.zones task.zones (map passes_of_played played) (map vec_items columns)
-        (length-map played passes_of_played ∙ played-count task rows played numbers_same ∙ rows_count) (length-map columns vec_items ∙ columns_count) passes_turned shared
+        (length-map played passes_of_played ∙ played-count task rows played worked numbers_same numbers_are ∙ rows_count) (length-map columns vec_items ∙ columns_count) passes_turned shared
         (passes-each task rows played worked numbers_same numbers_are)
 
     pub all_replayed : (left : List ZoneHistory) (merged : List Decision) → length task.rooms ≡ task.workers → AreClosed 0 task.rooms task.config.zones (map vec_items columns) left → IsMerged task.workers task.lines played merged → HasReplayedAll task.config task.workers task.lines merged left

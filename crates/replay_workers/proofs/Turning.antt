@@ -1,23 +1,22 @@
 -- Columns of new passes become rows, and rows become columns again.
-use Rattle.std.proofs.Common.{ℕ, zero, suc, ◌≡◌, ◌+◌, ◌*◌, ◌<◌, ◌≤◌, ◌⊎◌, inl, inr, Bool, true, false, List, [], ◌∷◌, ◌++◌, length, map, take, drop, get_or, subst, sym, ap, refl, ◌∙◌, arith}
+use Rattle.std.proofs.Common.{ℕ, zero, suc, ◌≡◌, ◌<◌, ◌≤◌, ◌⊎◌, inl, inr, Bool, true, false, List, [], ◌∷◌, ◌++◌, length, map, take, drop, subst, sym, ap, refl, ◌∙◌, arith}
 use Rattle.std.specs.Prelude.{Option, Some, None, IfSome, nat_lt, slice_get}
 use Rattle.std.proofs.lemmas.Bool.Decides.{nat_tests}
 use Rattle.std.specs.Option.{option_map}
-use Rattle.std.specs.List.{All}
 use Rattle.std.proofs.lemmas.List.Elements.{All-nil}
-use Rattle.std.proofs.lemmas.Option.{slice_get-map, slice_get_within, slice_get_past, slice_get-get_or, slice_get_cases}
-use Rattle.shared_zone.specs.Callers.{ZoneId, newcomer}
+use Rattle.std.proofs.lemmas.Option.{slice_get-map, slice_get_within, slice_get_past}
+use Rattle.shared_zone.specs.Callers.{ZoneId}
 use Rattle.zone_config.specs.declared.data.ZoneSpec.{ZoneSpec}
 use Rattle.zone_config.specs.declared.data.ZoneSpec.TheVariants as zone
 use Rattle.replay_share.specs.Logs.{ZoneLog, HasPart, req_opened, conn_opened, peer_opened}
-use Rattle.replay_share.specs.Asked.{IsAt, HasAsked}
+use Rattle.replay_share.specs.Asked.{IsAt}
 use Rattle.std.proofs.lemmas.List.{length-append, take-append-drop}
 use Rattle.replay_workers.specs.declared.passes.Row.{Row}
 use Rattle.replay_workers.specs.declared.passes.Shared.{Shared}
 use Rattle.replay_workers.specs.declared.passes.ZonePass.{ZonePass}
 use Rattle.replay_workers.specs.declared.passes.ZonePass.TheVariants.{Req, Conn, Peer}
 use Rattle.replay_workers.specs.Passes.{Place, IsCallerOf, IsPassOf, IsSharedOf, seen_by, id_of, AskedBy}
-use Rattle.replay_workers.specs.Columns.{IsNewPass, IsOpened, AreAt}
+use Rattle.replay_workers.specs.Columns.{IsNewPass}
 use Rattle.replay_workers.specs.Zones.{AreOpened, AreColumns}
 use Rattle.replay_workers.specs.Transposing.{at_place, cell, IsTransposed}
 
@@ -64,8 +63,8 @@ cell_in {A = A} rows i j row is = ap (λ (o : Option (List A)). at_place o j) is
 pub numbers-more : (rows : List Row) (row : Row) → ((k : ℕ) (r : Row) → slice_get rows k ≡ Some r → r.number ≡ k) → row.number ≡ length rows → (k : ℕ) (r : Row) → slice_get (rows ++ row ∷ []) k ≡ Some r → r.number ≡ k
 numbers-more rows row old number k r is =
     elim (low_or k (length rows)) [
-      inl low ↦ old k r (sym (snoc_before rows row k low) ∙ is)
-    | inr past ↦
+      | inl low ↦ old k r (sym (snoc_before rows row k low) ∙ is)
+      | inr past ↦
           let k_is : k ≡ length rows = omega (arith, past, slice_get_within (rows ++ row ∷ []) k r is, length-append rows (row ∷ [])) in
           let e : Some row ≡ Some r = sym (ap (slice_get (rows ++ row ∷ [])) k_is ∙ snoc_at rows row) ∙ is in
           let same : row ≡ r = cc in

@@ -1,5 +1,5 @@
 -- The passes of all workers to a zone, from its opening to its end.
-use Rattle.std.specs.Prelude.{ℕ, ◌≡◌, ◌<◌, ◌≤◌, ◌^◌, List, length, map, sum, Option, Some, slice_get}
+use Rattle.std.specs.Prelude.{ℕ, ◌≡◌, ◌<◌, ◌≤◌, ◌^◌, List, length, sum, Some, slice_get}
 use Rattle.shared_zone.specs.Callers.{ZoneId, newcomer}
 use Rattle.zone_object.specs.History.{own, HasRun}
 use Rattle.req_zone.specs.Object as req
@@ -22,7 +22,7 @@ use Rattle.replay_workers.specs.declared.passes.ZonePass.{ZonePass}
 use Rattle.replay_workers.specs.declared.passes.ZonePass.TheVariants.{Req, Conn, Peer}
 use Rattle.replay_workers.specs.declared.history.ZoneHistory.{ZoneHistory}
 use Rattle.replay_workers.specs.declared.history.ZoneHistory.TheVariants as history
-use Rattle.replay_workers.specs.Passes.{Place, id_of, IsSharedOf, IsPassOf, seen_by}
+use Rattle.replay_workers.specs.Passes.{id_of, IsSharedOf, IsPassOf, seen_by}
 
 -- ---- at the opening
 

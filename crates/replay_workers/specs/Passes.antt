@@ -1,5 +1,5 @@
 -- The zones that workers share, and a worker's passes to them.
-use Rattle.std.specs.Prelude.{ℕ, ◌≡◌, ◌*◌, ◌≤◌, List, [], length, map, Option, Some, None, slice_get, slice_index}
+use Rattle.std.specs.Prelude.{ℕ, ◌≡◌, ◌*◌, ◌≤◌, List, [], length, map, Some, slice_get, slice_index}
 use Rattle.shared_zone.specs.Callers.{ZoneId, Caller}
 use Rattle.zone_config.specs.declared.data.Config.{Config}
 use Rattle.zone_config.specs.declared.data.ZoneSpec.{ZoneSpec}

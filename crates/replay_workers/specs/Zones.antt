@@ -1,5 +1,5 @@
 -- All zones of a configuration with the passes of all workers.
-use Rattle.std.specs.Prelude.{ℕ, ◌≡◌, ◌+◌, List, [], length, map, Some, slice_get, vec_items}
+use Rattle.std.specs.Prelude.{ℕ, ◌≡◌, ◌+◌, List, length, map, Some, slice_get}
 use Rattle.zone_config.specs.declared.data.Config.{Config}
 use Rattle.zone_config.specs.declared.data.ZoneSpec.{ZoneSpec}
 use Rattle.replay_log.specs.declared.line.Line.{Line}

@@ -42,14 +42,7 @@ fn play<R: Wait, G: Gate>(
         calls: 0,
         passes,
     };
-    let decisions = replay_share(
-        alloc,
-        config,
-        lines,
-        workers,
-        number,
-        &mut worker,
-    )?;
+    let decisions = replay_share(alloc, config, lines, workers, number, &mut worker)?;
     Ok(Played {
         number,
         decisions,

@@ -1,4 +1,4 @@
-use Rattle.std.proofs.Common.{rules, ◌≡◌, ◌∷◌, [], ◌++◌, List, subst}
+use Rattle.std.proofs.Common.{◌∷◌, [], ◌++◌, List, subst}
 use Rattle.zone_object.specs.History.{entry, run, IsHistory}
 use Rattle.peer_zone.specs.Object.{answer_of, zone_after, Permits, Ready, CanAnswer}
 use Rattle.peer_zone.specs.Opening.{IsOpened}

@@ -1,8 +1,7 @@
-use Rattle.std.proofs.Common.{rules, ◌≡◌, ◌∙◌, ap, subst}
+use Rattle.std.proofs.Common.{◌∙◌, ap, subst}
 use Rattle.std.specs.Prelude.{Some}
 use Rattle.std.specs.Option.{option_map}
 use Rattle.std.proofs.lemmas.Option.{slice_get-map}
-use Rattle.replay_workers.specs.declared.passes.Shared.{Shared}
 use Rattle.replay_workers.specs.Passes.{id_of, IsSharedOf}
 use Rattle.replay_workers.proofs.Ended.{req_kind, conn_kind, peer_kind}
 use Rattle.replay_workers.proofs.closing.close_zone.Goals as goal

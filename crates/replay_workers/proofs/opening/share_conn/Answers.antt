@@ -1,4 +1,4 @@
-use Rattle.std.proofs.Common.{rules, ◌≡◌, ◌∙◌, ◌++◌, ◌∷◌, [], List, map, length, sym, ap, append_assoc, append-nil}
+use Rattle.std.proofs.Common.{◌≡◌, ◌∙◌, ◌++◌, ◌∷◌, [], List, map, sym, ap, append_assoc, append-nil}
 use Rattle.replay_workers.specs.declared.passes.ZonePass.{ZonePass}
 use Rattle.replay_workers.specs.declared.passes.ZonePass.TheVariants.{Conn}
 use Rattle.replay_workers.proofs.ColumnCells.{no_rows}

@@ -1,8 +1,7 @@
-use Rattle.std.proofs.Common.{rules, ◌≡◌, ◌∙◌, ◌++◌, ◌∷◌, [], ◌+◌, List, map, length, vec_items, vec_len, sym, ap, subst, append_assoc, arith}
+use Rattle.std.proofs.Common.{◌≡◌, ◌∙◌, ◌++◌, ◌∷◌, [], List, map, vec_items, sym, ap, subst, append_assoc, arith}
 use Rattle.std.specs.Prelude.{ℕ, Some, slice_get}
 use Rattle.std.proofs.lemmas.List.{map-append}
 use Rattle.replay_workers.specs.declared.passes.Row.{Row}
-use Rattle.replay_workers.specs.declared.passes.ZonePass.{ZonePass}
 use Rattle.replay_workers.specs.Passes.{passes_of_row}
 use Rattle.replay_workers.proofs.Turning.{numbers-more}
 use Rattle.replay_workers.proofs.rows.numbered.Goals as goal

@@ -1,4 +1,4 @@
-use Rattle.std.proofs.Common.{rules, vec_items, vec_len, ◌≡◌, ◌∙◌, ◌<◌, ◌-◌, sym, length, arith}
+use Rattle.std.proofs.Common.{vec_items, vec_len, ◌≡◌, ◌∙◌, ◌<◌, ◌-◌, sym, length, arith}
 use Rattle.replay_workers.proofs.ColumnCells.{added-step}
 use Rattle.replay_workers.proofs.transposing.add_row.Goals as goal
 

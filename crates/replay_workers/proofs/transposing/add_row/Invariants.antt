@@ -1,4 +1,4 @@
-use Rattle.std.proofs.Common.{ℕ, ◌≡◌, ◌≤◌, List, length, map, vec_len, vec_items}
+use Rattle.std.proofs.Common.{◌≡◌, ◌≤◌, map, vec_len, vec_items}
 use Rattle.replay_workers.specs.Transposing.{added}
 use Rattle.replay_workers.proofs.transposing.add_row.Given as goal
 

@@ -1,8 +1,6 @@
-use Rattle.std.proofs.Common.{rules, ℕ, ◌≡◌, ◌∙◌, ◌≤◌, List, [], ◌∷◌, length, map, replicate, sym, ap, refl, subst, arith, vec_items, vec_len}
-use Rattle.std.specs.List.{All}
-use Rattle.std.proofs.lemmas.List.{length-map}
+use Rattle.std.proofs.Common.{◌≡◌, ◌∙◌, [], length, map, replicate, sym, ap, subst, arith, vec_items, vec_len}
 use Rattle.std.proofs.lemmas.List.Elements.{All-weaker}
-use Rattle.replay_workers.specs.Transposing.{added, filled}
+use Rattle.replay_workers.specs.Transposing.{filled}
 use Rattle.replay_workers.proofs.ColumnCells.{AreWide, wide, is_transposed, no_rows}
 use Rattle.replay_workers.proofs.transposing.transpose.Goals as goal
 

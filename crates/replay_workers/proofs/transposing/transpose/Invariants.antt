@@ -1,4 +1,4 @@
-use Rattle.std.proofs.Common.{ℕ, ◌≡◌, ◌≤◌, List, [], length, map, replicate, vec_len, vec_items}
+use Rattle.std.proofs.Common.{◌≡◌, [], map, replicate, vec_len, vec_items}
 use Rattle.replay_workers.specs.Transposing.{filled}
 use Rattle.replay_workers.proofs.ColumnCells.{AreWide}
 use Rattle.replay_workers.proofs.transposing.transpose.Given as goal

@@ -1,4 +1,4 @@
-use Rattle.std.proofs.Common.{rules, ◌≡◌, ◌∙◌, ◌<◌, ◌*◌, ℕ, List, length, map, vec_items, sym, ap, subst, arith}
+use Rattle.std.proofs.Common.{◌≡◌, ◌∙◌, ◌<◌, ◌*◌, ℕ, List, length, map, vec_items, sym, ap, subst, arith}
 use Rattle.std.specs.Prelude.{slice_index}
 use Rattle.replay_share.specs.Replay.{lines_of}
 use Rattle.replay_workers.specs.declared.passes.Shared.{Shared}
@@ -19,7 +19,7 @@ transpose-requires g c =
     all_columns c.deref.result.now c.as_slice.result.now c.in_ok-zones.zones.items c.in_ok-zones.columns.items c.args.workers c.in_ok-zones.ensures rooms_are
 
 pub work-requires-clause-task : goal.work-requires-clause-task
-work-requires-clause-task g c =
+work-requires-clause-task g c = λ κs within.
     let task = task_of c.args.config.now c.args.lines.now c.args.workers c.deref-2.result.now c.deref-3.result.now in
     let columns = c.in_ok-zones.columns.items in
     let turned = c.in_ok-transpose.field-0 in
@@ -34,7 +34,7 @@ work-requires-clause-task g c =
     }
 
 pub work-requires-clause-rows : goal.work-requires-clause-rows
-work-requires-clause-rows g c =
+work-requires-clause-rows g c = λ κs within.
     let task = task_of c.args.config.now c.args.lines.now c.args.workers c.deref-2.result.now c.deref-3.result.now in
     let columns = c.in_ok-zones.columns.items in
     let turned = c.in_ok-transpose.field-0 in
@@ -49,7 +49,7 @@ merge-requires-clause-all g c =
     let task = task_of c.args.config.now c.args.lines.now c.args.workers c.deref-2.result.now c.deref-3.result.now in
     let rows = c.in_ok-rows.rows.items in
     let turned = c.in_ok-transpose.field-0 in
-    ap length c.deref-4.ensures.value ∙ played-count task rows c.in_ok-played.played.items c.in_ok-played.ensures.numbers
+    ap length c.deref-4.ensures.value ∙ played-count task rows c.in_ok-played.played.items c.in_ok-played.ensures.worked c.in_ok-played.ensures.numbers c.in_ok-rows.ensures.numbers
     ∙ sym (length-map rows passes_of_row) ∙ ap length c.in_ok-rows.ensures.passes ∙ length-map turned.items vec_items ∙ sym turned.ok.0 ∙ c.in_ok-transpose.ensures.count
 
 pub merge-requires-clause-each : goal.merge-requires-clause-each
@@ -61,7 +61,7 @@ merge-requires-clause-each g c =
 pub transpose-requires-2 : goal.transpose-requires-2
 transpose-requires-2 g c =
     let task = task_of c.args.config.now c.args.lines.now c.args.workers c.deref-2.result.now c.deref-3.result.now in
-    let zones_count : length task.config.zones ≡ c.len.result = sym (c.in_ok-zones.ensures.zones_are ∙ ap length c.as_slice.ensures) ∙ sym c.in_ok-zones.zones.ok.0 in
+    let zones_count : length task.config.zones ≡ c.len.result = sym (c.in_ok-zones.ensures.zones_are ∙ ap length c.as_slice.ensures) ∙ sym c.in_ok-zones.zones.ok.0 ∙ sym c.len.ensures in
     all_passes task c.in_ok-rows.rows.items c.in_ok-played.played.items c.in_ok-played.ensures.worked c.in_ok-played.ensures.numbers c.in_ok-rows.ensures.numbers c.len.result zones_count c.in_ok-passes_of.field-0.items c.in_ok-passes_of.ensures
 
 pub close_zones-requires : goal.close_zones-requires
@@ -75,10 +75,10 @@ close_zones-requires g c =
     let some : 0 < length task.rooms = omega (arith, c.requires.workers.0, rooms_count) in
     let shared = are_shared task columns turned.items opened c.in_ok-transpose.ensures.cells turned_count some in
     let last = c.in_ok-columns.columns in
-    let zones_count : length task.config.zones ≡ c.len.result = sym (c.in_ok-zones.ensures.zones_are ∙ ap length c.as_slice.ensures) ∙ sym c.in_ok-zones.zones.ok.0 in
+    let zones_count : length task.config.zones ≡ c.len.result = sym (c.in_ok-zones.ensures.zones_are ∙ ap length c.as_slice.ensures) ∙ sym c.in_ok-zones.zones.ok.0 ∙ sym c.len.ensures in
     let back = columns_back task c.in_ok-rows.rows.items c.in_ok-played.played.items c.in_ok-played.ensures.worked c.in_ok-played.ensures.numbers c.in_ok-rows.ensures.numbers
-        (rows-count task columns turned.items opened c.in_ok-transpose.ensures.cells turned_count c.in_ok-rows.rows.items c.in_ok-rows.ensures.passes)
-        c.in_ok-passes_of.field-0.items last.items c.in_ok-passes_of.ensures c.in_ok-columns.ensures.cells (sym last.ok.0 ∙ c.in_ok-columns.ensures.count ∙ sym zones_count) shared in
+    (rows-count task columns turned.items opened c.in_ok-transpose.ensures.cells turned_count c.in_ok-rows.rows.items c.in_ok-rows.ensures.passes)
+    c.in_ok-passes_of.field-0.items last.items c.in_ok-passes_of.ensures c.in_ok-columns.ensures.cells (sym last.ok.0 ∙ c.in_ok-columns.ensures.count ∙ sym zones_count) shared in
     (task.rooms, task.config.zones, some, subst (λ (z : List Shared). AreColumns task.rooms task.config.zones z (map vec_items last.items)) c.deref-2.ensures.value back)
 
 pub returns : goal.returns
@@ -92,12 +92,12 @@ returns g c =
     let some : 0 < length task.rooms = omega (arith, c.requires.workers.0, rooms_count) in
     let shared = are_shared task columns turned.items opened c.in_ok-transpose.ensures.cells turned_count some in
     let last = c.in_ok-columns.columns in
-    let zones_count : length task.config.zones ≡ c.len.result = sym (c.in_ok-zones.ensures.zones_are ∙ ap length c.as_slice.ensures) ∙ sym c.in_ok-zones.zones.ok.0 in
+    let zones_count : length task.config.zones ≡ c.len.result = sym (c.in_ok-zones.ensures.zones_are ∙ ap length c.as_slice.ensures) ∙ sym c.in_ok-zones.zones.ok.0 ∙ sym c.len.ensures in
     let played = c.in_ok-played.played.items in
     let rows_count = rows-count task columns turned.items opened c.in_ok-transpose.ensures.cells turned_count c.in_ok-rows.rows.items c.in_ok-rows.ensures.passes in
     let columns_count = sym last.ok.0 ∙ c.in_ok-columns.ensures.count ∙ sym zones_count in
     let back = columns_back task c.in_ok-rows.rows.items played c.in_ok-played.ensures.worked c.in_ok-played.ensures.numbers c.in_ok-rows.ensures.numbers rows_count
-        c.in_ok-passes_of.field-0.items last.items c.in_ok-passes_of.ensures c.in_ok-columns.ensures.cells columns_count shared in
+    c.in_ok-passes_of.field-0.items last.items c.in_ok-passes_of.ensures c.in_ok-columns.ensures.cells columns_count shared in
     let all = subst (λ (z : List Shared). AreColumns task.rooms task.config.zones z (map vec_items last.items)) c.deref-2.ensures.value back in
     all_replayed task c.in_ok-rows.rows.items played c.in_ok-played.ensures.worked c.in_ok-played.ensures.numbers c.in_ok-rows.ensures.numbers rows_count
     c.in_ok-passes_of.field-0.items last.items c.in_ok-passes_of.ensures c.in_ok-columns.ensures.cells columns_count shared

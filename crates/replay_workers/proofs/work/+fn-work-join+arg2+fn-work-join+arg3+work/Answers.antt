@@ -1,9 +1,8 @@
-use Rattle.std.proofs.Common.{rules, ◌≡◌, ◌∙◌, ◌++◌, List, map, sym, ap, subst}
+use Rattle.std.proofs.Common.{◌≡◌, ◌∙◌, ◌++◌, List, map, sym, ap, subst}
 use Rattle.std.specs.Prelude.{IfOk}
 use Rattle.std.specs.List.{All}
 use Rattle.std.proofs.lemmas.List.{map-append}
 use Rattle.std.proofs.lemmas.List.Elements.{All-append}
-use Rattle.replay_workers.specs.declared.passes.Row.{Row}
 use Rattle.replay_workers.specs.declared.passes.Played.{Played}
 use Rattle.replay_workers.specs.Passes.{HasWorked, number_of_row, number_of_played}
 use Rattle.replay_workers.specs.Tasks.{task_of}

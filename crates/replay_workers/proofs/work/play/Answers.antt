@@ -1,4 +1,4 @@
-use Rattle.std.proofs.Common.{rules, ◌≡◌, List, [], sym, subst, arith}
+use Rattle.std.proofs.Common.{List, sym, subst, arith}
 use Rattle.std.specs.Prelude.{slice_index}
 use Rattle.replay_workers.specs.declared.passes.ZonePass.{ZonePass}
 use Rattle.replay_workers.specs.Passes.{Stand, AskedBy, place_of}

@@ -1,4 +1,4 @@
-use Rattle.std.proofs.Common.{rules, ℕ, ◌≡◌, ◌∷◌, [], ◌++◌, List, ap, get_or}
+use Rattle.std.proofs.Common.{ap, get_or}
 use Rattle.replay_workers.specs.Passes.{Stand}
 use Rattle.replay_workers.proofs.Asking.{found, may_call, has_asked, still_answers}
 use Rattle.replay_workers.proofs.worker.WorkerAnswers.ask.Goals as goal
