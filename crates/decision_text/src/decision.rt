@@ -211,10 +211,10 @@ pub fn push_decision(
     ensures { OnOk result (text.new.items ≡ text.old.items ++ decision_text config.now line.now decision) }
 {
     push_number(text, u64::from(line.number))?;
-    text.extend_from_slice(b" ")?;
+    text.push(b' ')?;
     push_number(text, u64::from(line.conn))?;
-    text.extend_from_slice(b" ")?;
+    text.push(b' ')?;
     push_words(text, config.zones.as_slice(), decision)?;
-    text.extend_from_slice(b"\n")?;
+    text.push(b'\n')?;
     Ok(())
 }

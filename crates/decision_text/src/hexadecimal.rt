@@ -3,6 +3,9 @@ ghost use Rattle.decision_text.specs.Hexadecimal.{hex_bytes, hex_word};
 
 use std::alloc::{AllocError, Global};
 
+/// The most bytes whose digits are made without memory of their own.
+const SHORT: usize = 32;
+
 /// Adds two lower-case hexadecimal digits for each byte.
 pub(crate) fn push_hex_bytes(
     alloc: Global,
@@ -11,14 +14,21 @@ pub(crate) fn push_hex_bytes(
 ) -> Result<(), AllocError>
     ensures { OnOk result (text.new.items ≡ text.old.items ++ hex_bytes bytes.now) }
 {
-    let digits = hex::encode(alloc, bytes)?;
-    text.extend_from_slice(digits.as_bytes())
+    if bytes.len() > SHORT {
+        let digits = hex::encode(alloc, bytes)?;
+        return text.extend_from_slice(digits.as_bytes());
+    }
+    let mut buffer = [0u8; 2 * SHORT];
+    let digits = &mut buffer[..2 * bytes.len()];
+    match hex::encode_to_slice(bytes, digits) {
+        Ok(()) => text.extend_from_slice(digits),
+        Err(_) => unreachable!(),
+    }
 }
 
 /// Adds a word in 16 lower-case hexadecimal digits.
 pub(crate) fn push_hex_word(alloc: Global, text: &mut Vec<u8>, value: u64) -> Result<(), AllocError>
     ensures { OnOk result (text.new.items ≡ text.old.items ++ hex_word value) }
 {
-    let digits = hex::encode(alloc, value.to_be_bytes())?;
-    text.extend_from_slice(digits.as_bytes())
+    push_hex_bytes(alloc, text, &value.to_be_bytes())
 }

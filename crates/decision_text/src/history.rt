@@ -31,7 +31,8 @@ pub fn push_zone_head(
     text.extend_from_slice(kind)?;
     text.extend_from_slice(b"calls=")?;
     push_number(text, calls)?;
-    text.extend_from_slice(b"\n")
+    text.push(b'\n')?;
+    Ok(())
 }
 
 /// Adds the place of an entry and the worker that made its call.
@@ -39,8 +40,10 @@ fn push_place(text: &mut Vec<u8>, place: u64, worker: u32) -> Result<(), AllocEr
     ensures { OnOk result (text.new.items ≡ text.old.items ++ with_number (decimal place ++ codes " ") worker ++ codes " ") }
 {
     push_number(text, place)?;
-    push_with(text, b" ", u64::from(worker))?;
-    text.extend_from_slice(b" ")
+    text.push(b' ')?;
+    push_number(text, u64::from(worker))?;
+    text.push(b' ')?;
+    Ok(())
 }
 
 // ---- request zones
@@ -100,7 +103,8 @@ pub fn push_req_entry(
     push_place(text, place, worker)?;
     push_req_call(alloc, text, call)?;
     push_req_reply(text, reply)?;
-    text.extend_from_slice(b"\n")
+    text.push(b'\n')?;
+    Ok(())
 }
 
 // ---- connection zones
@@ -147,7 +151,8 @@ pub fn push_conn_entry(
     push_place(text, place, worker)?;
     push_conn_call(alloc, text, call)?;
     push_conn_reply(text, reply)?;
-    text.extend_from_slice(b"\n")
+    text.push(b'\n')?;
+    Ok(())
 }
 
 // ---- upstream zones
@@ -158,7 +163,7 @@ fn push_peer_call(alloc: Global, text: &mut Vec<u8>, call: &PeerCall) -> Result<
     match call {
         PeerCall::Choose { list, tried, now } => {
             push_with(text, b"choose ", u64::from(*list))?;
-            text.extend_from_slice(b" ")?;
+            text.push(b' ')?;
             push_hex_word(alloc, text, *tried)?;
             push_with(text, b" ", *now)
         }
@@ -201,5 +206,6 @@ pub fn push_peer_entry(
     push_place(text, place, worker)?;
     push_peer_call(alloc, text, call)?;
     push_peer_reply(text, reply)?;
-    text.extend_from_slice(b"\n")
+    text.push(b'\n')?;
+    Ok(())
 }

@@ -63,6 +63,7 @@ fn copy_of(limit: &ConnLimit) -> ConnLimit
 }
 
 /// What follows the limits of connections.
+#[inline(always)]
 fn after_conns(
     config: &Config,
     opening: &Opening,
@@ -85,6 +86,7 @@ fn after_conns(
 }
 
 /// What follows when connections are closed.
+#[inline(always)]
 fn after_closes(alloc: Global, config: &Config, behind: Behind) -> Step
     requires { HasFewServers config.now }
     ensures { step_turn config.now result ≡ behind_closes config.now behind }
@@ -107,6 +109,7 @@ fn after_closes(alloc: Global, config: &Config, behind: Behind) -> Step
 }
 
 /// Closes these connections, the last one first.
+#[inline(always)]
 pub(crate) fn close(alloc: Global, config: &Config, opened: Items<Opened>, behind: Behind) -> Step
     requires { HasFewServers config.now }
     ensures { step_turn config.now result ≡ closes (reverse opened) (behind_closes config.now behind) }
@@ -125,6 +128,7 @@ pub(crate) fn close(alloc: Global, config: &Config, opened: Items<Opened>, behin
 }
 
 /// Goes along the limits of connections from a place of their list on, of a request that has these connections.
+#[inline(always)]
 fn walk_conns(
     alloc: Global,
     config: &Config,
@@ -166,6 +170,7 @@ fn walk_conns(
 }
 
 /// What follows the limits of requests.
+#[inline(always)]
 pub(crate) fn after_reqs(
     alloc: Global,
     config: &Config,
@@ -187,6 +192,7 @@ pub(crate) fn after_reqs(
 }
 
 /// What a limit's zone has answered of a request with these connections.
+#[inline(always)]
 pub(crate) fn opened(
     alloc: Global,
     config: &Config,

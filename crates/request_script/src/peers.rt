@@ -97,6 +97,7 @@ fn tries_left(config: &Config, taken: Taken) -> u64
 }
 
 /// A list is asked for a server.
+#[inline(always)]
 fn choose(choice: Choice) -> Step
     ensures { (config : Config) → step_turn config result ≡ choice_turn config choice }
 {
@@ -114,6 +115,7 @@ fn choose(choice: Choice) -> Step
 }
 
 /// A server is chosen for an open, where its level has an upstream.
+#[inline(always)]
 pub(crate) fn peer_step(
     config: &Config,
     opening: &Opening,
@@ -145,6 +147,7 @@ pub(crate) fn peer_step(
 }
 
 /// The request has the server of this index of the list that was asked.
+#[inline(always)]
 fn found(choice: Choice, index: u32) -> Step
     requires { index < 64 }
     ensures { (config : Config) → step_turn config result ≡ found choice.purpose choice.opened (taken_at choice.zone choice.tries choice.list choice.tried index) }
@@ -166,6 +169,7 @@ fn found(choice: Choice, index: u32) -> Step
 }
 
 /// The list that was asked has no server: the backup list is asked with nothing tried, or the request has none.
+#[inline(always)]
 fn not_found(alloc: Global, config: &Config, choice: Choice) -> Step
     requires { HasFewServers config.now }
     ensures { step_turn config.now result ≡ without_server config.now choice }
@@ -188,6 +192,7 @@ fn not_found(alloc: Global, config: &Config, choice: Choice) -> Step
 }
 
 /// What a list has answered.
+#[inline(always)]
 pub(crate) fn chosen(alloc: Global, config: &Config, choice: Choice, reply: PeerReply) -> Step
     requires servers { HasFewServers config.now }
     requires range { HasSmallIndex reply }
@@ -200,6 +205,7 @@ pub(crate) fn chosen(alloc: Global, config: &Config, choice: Choice, reply: Peer
 }
 
 /// A server is given back, as failed or as good.
+#[inline(always)]
 fn free(taken: Taken, failed: bool, now: u64) -> ZoneCall
     ensures { result ≡ ZoneCall.Peer taken.zone (PeerCall.Free taken.list taken.index failed (seconds now)) }
 {
@@ -215,6 +221,7 @@ fn free(taken: Taken, failed: bool, now: u64) -> ZoneCall
 }
 
 /// The server of an active request has failed, or the request itself where it has none.
+#[inline(always)]
 pub(crate) fn fails(
     alloc: Global,
     config: &Config,
@@ -238,6 +245,7 @@ pub(crate) fn fails(
 }
 
 /// The server that failed is given back: another is chosen, if a try is left.
+#[inline(always)]
 pub(crate) fn tries_next(
     alloc: Global,
     config: &Config,
@@ -267,6 +275,7 @@ pub(crate) fn tries_next(
 }
 
 /// An active request ends.
+#[inline(always)]
 pub(crate) fn ends(
     alloc: Global,
     config: &Config,

@@ -110,6 +110,8 @@ pub(crate) enum Progress {
 }
 
 /// Where a turn has come.
+///
+/// It is a large value, and a call that hands it on copies it: so the functions of the steps are inlined.
 #[derive(Debug, Drop)]
 pub(crate) enum Step {
     /// It asks a call.

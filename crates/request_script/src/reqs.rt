@@ -116,6 +116,7 @@ fn copy_of(limit: &ReqLimit) -> ReqLimit
 }
 
 /// Lets these holds go, the last one first.
+#[inline(always)]
 fn release(
     alloc: Global,
     config: &Config,
@@ -144,6 +145,7 @@ fn release(
 }
 
 /// Accounts these holds, the last one first, where this is the greatest delay so far.
+#[inline(always)]
 fn account(
     alloc: Global,
     config: &Config,
@@ -178,6 +180,7 @@ fn account(
 }
 
 /// The walk has come to the end of its list.
+#[inline(always)]
 fn walk_ends(
     alloc: Global,
     config: &Config,
@@ -200,6 +203,7 @@ fn walk_ends(
 }
 
 /// Goes along the limits of requests from a place of their list on, of a request that has these holds.
+#[inline(always)]
 pub(crate) fn walk_reqs(
     alloc: Global,
     config: &Config,
@@ -243,6 +247,7 @@ pub(crate) fn walk_reqs(
 }
 
 /// What a limit's zone has answered of a request with these holds.
+#[inline(always)]
 fn checked(
     alloc: Global,
     config: &Config,
@@ -297,6 +302,7 @@ fn accounted(reply: ReqReply) -> u64
 }
 
 /// A hold was accounted with this reply, and these are left.
+#[inline(always)]
 fn account_more(
     alloc: Global,
     config: &Config,
@@ -316,6 +322,7 @@ fn account_more(
 }
 
 /// A request zone has answered what was asked of a request with these holds.
+#[inline(always)]
 pub(crate) fn answered(
     alloc: Global,
     config: &Config,

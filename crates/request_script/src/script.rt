@@ -100,6 +100,7 @@ impl<'a> Script<'a> {
     }
 
     /// The line of this connection has come to a step.
+    #[inline(always)]
     fn goes(&mut self, conn: u32, step: Step) -> Result<Next, NoMemory>
         ensures { MatchResult result (λ next. Comes (state_of self.old) (state_of self.new) conn (step_turn self.old.config.now step) next) (λ _. (state_of self.new).stage ≡ (state_of self.old).stage) }
     {

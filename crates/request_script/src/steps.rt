@@ -25,6 +25,7 @@ use zone_config::Config;
 use zone_outside::NoMemory;
 
 /// The first step of an event on a connection without an active request.
+#[inline(always)]
 fn idle_step(alloc: Global, config: &Config, now: u64, event: &Event) -> Result<Step, NoMemory>
     requires { HasFewServers config.now }
     ensures { IfOk result (λ step. step_turn config.now step ≡ idle_turn config.now now event.now) }
@@ -50,6 +51,7 @@ fn idle_step(alloc: Global, config: &Config, now: u64, event: &Event) -> Result<
 }
 
 /// The first step of an event on a connection with an active request.
+#[inline(always)]
 fn active_step(
     alloc: Global,
     config: &Config,
@@ -74,6 +76,7 @@ fn active_step(
 }
 
 /// The first step of a line, on a connection with this active request, or none.
+#[inline(always)]
 pub(crate) fn first_step(
     alloc: Global,
     config: &Config,
@@ -124,6 +127,7 @@ fn peer_reply(reply: ZoneReply) -> PeerReply
 }
 
 /// The step that follows a reply.
+#[inline(always)]
 pub(crate) fn next_step(
     alloc: Global,
     config: &Config,
