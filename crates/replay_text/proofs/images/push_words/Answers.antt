@@ -1,4 +1,4 @@
-use Rattle.std.proofs.Common.{List, ℕ, subst, sym}
+use Rattle.std.proofs.Common.{subst, sym}
 use Rattle.std.specs.Prelude.{OnOk}
 use Rattle.req_zone.specs.declared.words.ReqWords.{ReqWords}
 use Rattle.conn_zone.specs.Layout.{Zone}
