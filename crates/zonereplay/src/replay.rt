@@ -25,6 +25,10 @@ use zone_outside::{NoMemory, Shelf, Text};
 /// The calls that a line makes to one zone at most.
 const CALLS_A_LINE: u32 = 3;
 
+/// One worker, whose number is 0, has all lines.
+const ONE_WORKER: u32 = 1;
+const FIRST_WORKER: u32 = 0;
+
 /// What is written of a replay on one worker.
 #[derive(Clone, Copy, Debug)]
 pub(crate) enum Wanted {
@@ -52,7 +56,7 @@ pub(crate) fn play(
         Err(OpeningFault::Refused { line: _ }) => unreachable!(),
         Err(OpeningFault::NoMemory) => return Err(NoMemory),
     };
-    let decisions = replay_share(alloc, config, lines, &mut zones)?;
+    let decisions = replay_share(alloc, config, lines, ONE_WORKER, FIRST_WORKER, &mut zones)?;
     Ok((zones, decisions))
 }
 
