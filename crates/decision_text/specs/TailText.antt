@@ -1,5 +1,5 @@
 -- What is printed of a zone after its history: how full it is, and its words.
-use Rattle.std.specs.Prelude.{ℕ, ◌+◌, ◌^◌, ◌<◌, nat_eq, if◌then◌else◌, List, [], ◌∷◌, ◌++◌, length, codes, decimal}
+use Rattle.std.specs.Prelude.{ℕ, ◌≢◌, ◌+◌, ◌^◌, ◌<◌, nat_eq, if◌then◌else◌, List, [], ◌∷◌, ◌++◌, length, codes, decimal}
 use Rattle.std.specs.List.{All}
 use Rattle.slab_model.specs.declared.stat.Stat.{Stat}
 use Rattle.slab_model.specs.Geometry.{class_size}
@@ -47,3 +47,8 @@ words_text index (value ∷ values) = word_text index value ++ words_text (index
 -- `zone NAME words N`, and each word that isn't 0
 abbrev pub image_text : List ℕ → List ℕ → List ℕ
 image_text name words = codes "zone " ++ coded name ++ with_number (codes " words ") (length words) ++ codes "\n" ++ words_text 0 words
+
+-- no word's line can stand here: the text doesn't begin with `w`
+abbrev pub BeginsNoWord : List ℕ → Type 0
+BeginsNoWord [] = Unit {0}
+BeginsNoWord (c ∷ rest) = c ≢ 119

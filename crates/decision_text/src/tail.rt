@@ -1,4 +1,4 @@
-ghost use Rattle.std.specs.Prelude.{◌≡◌, ◌++◌, ◌<◌, ◌≤◌, OnOk, length};
+ghost use Rattle.std.specs.Prelude.{◌≡◌, ◌++◌, ◌<◌, ◌≤◌, ◌^◌, OnOk, length};
 ghost use Rattle.decision_text.specs.TailText.{AreWords, slot_line, slot_text, slots_text, tail_text, word_text, words_text, image_text};
 
 use crate::coding::push_coded;
@@ -77,6 +77,7 @@ fn push_word(alloc: Global, text: &mut Vec<u8>, index: u64, value: u64) -> Resul
 fn push_words<V: ZoneView>(alloc: Global, text: &mut Vec<u8>, zone: &V) -> Result<(), AllocError>
     ensures text { OnOk result (text.new.items ≡ text.old.items ++ words_text 0 (V.image zone.now)) }
     ensures wide { OnOk result (AreWords (V.image zone.now)) }
+    ensures short { OnOk result (length (V.image zone.now) < 2 ^ 64) }
 {
     for index in 0..zone.words() {
         push_word(alloc, text, index, zone.word_at(index))?;
@@ -84,7 +85,8 @@ fn push_words<V: ZoneView>(alloc: Global, text: &mut Vec<u8>, zone: &V) -> Resul
     Ok(())
 }
 
-/// Adds the words of a zone: `zone NAME words N`, and `w INDEX VALUE` for each word that isn't 0. Each of them has 64 bits.
+/// Adds the words of a zone: `zone NAME words N`, and `w INDEX VALUE` for each word that isn't 0. Each of them has 64 bits,
+/// and there are fewer than 2^64.
 pub fn push_image<V: ZoneView>(
     alloc: Global,
     text: &mut Vec<u8>,
@@ -93,6 +95,7 @@ pub fn push_image<V: ZoneView>(
 ) -> Result<(), AllocError>
     ensures text { OnOk result (text.new.items ≡ text.old.items ++ image_text name.now (V.image zone.now)) }
     ensures wide { OnOk result (AreWords (V.image zone.now)) }
+    ensures short { OnOk result (length (V.image zone.now) < 2 ^ 64) }
 {
     text.extend_from_slice(b"zone ")?;
     push_coded(text, name)?;

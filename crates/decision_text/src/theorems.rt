@@ -1,8 +1,8 @@
-ghost use Rattle.std.specs.Prelude.{◌≡◌, ◌<◌, ◌^◌, List, ℕ, Some, length};
+ghost use Rattle.std.specs.Prelude.{◌≡◌, ◌<◌, ◌^◌, ◌++◌, List, ℕ, Some, length};
 ghost use Rattle.std.specs.List.{All};
 ghost use Rattle.zone_outside.specs.Coded.{decoded};
 ghost use Rattle.decision_text.specs.Coding.{coded};
-ghost use Rattle.decision_text.specs.TailText.{AreWords, image_text};
+ghost use Rattle.decision_text.specs.TailText.{AreWords, BeginsNoWord, image_text};
 
 /// A name that was printed reads back as coded text, as a theorem. Nothing runs.
 pub fn coded_reads_back()
@@ -14,4 +14,12 @@ pub fn coded_reads_back()
 pub fn image_tells_its_words()
     ensures { (name words others : List ℕ) → AreWords words → AreWords others → length words < 2 ^ 64 → length others < 2 ^ 64
         → image_text name words ≡ image_text name others → words ≡ others }
+{}
+
+/// The same where more text follows, as another zone's history or a report, which never begins with `w`: two equal texts
+/// have the same words, and the same text behind them. Nothing runs.
+pub fn image_tells_its_words_before_more()
+    ensures { (name words others first second : List ℕ) → AreWords words → AreWords others → length words < 2 ^ 64 → length others < 2 ^ 64
+        → BeginsNoWord first → BeginsNoWord second
+        → image_text name words ++ first ≡ image_text name others ++ second → (words ≡ others) × (first ≡ second) }
 {}

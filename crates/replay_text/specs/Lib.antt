@@ -1,2 +1,3 @@
 pub mod ReplayText
+pub mod After
 pub mod Images

@@ -1,7 +1,8 @@
 ghost use Rattle.std.specs.Prelude.{ℕ, ◌≡◌, ◌++◌, List, OnOk, map};
 ghost use Rattle.zone_config.specs.declared.data.ZoneSpec.{ZoneSpec};
 ghost use Rattle.request_script.specs.Turn.{Exchange};
-ghost use Rattle.replay_share.specs.Journals.{RunsReq, RunsConn, RunsPeer, IsJournalOf, Serves, log_of};
+ghost use Rattle.replay_share.specs.Journals.{IsJournalOf, Serves, log_of};
+ghost use Rattle.replay_text.specs.After.{IsReqAfter, IsConnAfter, IsPeerAfter};
 ghost use Rattle.replay_text.specs.ReplayText.{lines_from, req_line, conn_line, peer_line, req_text, conn_text, peer_text, zone_text, zones_text};
 
 use conn_zone::ConnZone;
@@ -11,7 +12,7 @@ use replay_share::{Journals, ZoneJournal};
 use req_zone::ReqZone;
 use std::alloc::Global;
 use zone_config::{ConnData, PeerData, ReqData, ZoneSpec};
-use zone_object::{Entry, Journal};
+use zone_object::Entry;
 use zone_outside::NoMemory;
 
 /// Adds a line for each call of a request zone.
@@ -63,57 +64,57 @@ fn push_peer_lines(
 }
 
 /// Adds the history of a request zone: the line that begins it, a line for each call, and how full the zone is.
-fn push_req_zone(
+pub(crate) fn push_req_zone(
     alloc: Global,
     text: &mut Vec<u8>,
     spec: &ReqData,
-    journal: &Journal<ReqZone>,
+    zone: &ReqZone,
+    entries: &[Entry<ReqZone>],
 ) -> Result<(), NoMemory>
-    requires { (room : ℕ) × RunsReq spec.now room journal.now }
-    ensures { (room : ℕ) → RunsReq spec.now room journal.now → OnOk result (text.new.items ≡ text.old.items ++ req_text spec.now journal.now.log) }
+    requires { IsReqAfter spec.now entries.now zone.now }
+    ensures { OnOk result (text.new.items ≡ text.old.items ++ req_text spec.now entries.now) }
 {
-    let entries = journal.entries();
     push_zone_head(text, spec.name.bytes(), b" req ", entries.len() as u64)?;
     push_req_lines(alloc, text, entries)?;
-    push_tail(text, journal.object())?;
+    push_tail(text, zone)?;
     Ok(())
 }
 
 /// Adds the history of a connection zone: the line that begins it, a line for each call, and how full the zone is.
-fn push_conn_zone(
+pub(crate) fn push_conn_zone(
     alloc: Global,
     text: &mut Vec<u8>,
     spec: &ConnData,
-    journal: &Journal<ConnZone>,
+    zone: &ConnZone,
+    entries: &[Entry<ConnZone>],
 ) -> Result<(), NoMemory>
-    requires { (room : ℕ) × RunsConn spec.now room journal.now }
-    ensures { (room : ℕ) → RunsConn spec.now room journal.now → OnOk result (text.new.items ≡ text.old.items ++ conn_text spec.now journal.now.log) }
+    requires { IsConnAfter spec.now entries.now zone.now }
+    ensures { OnOk result (text.new.items ≡ text.old.items ++ conn_text spec.now entries.now) }
 {
-    let entries = journal.entries();
     push_zone_head(text, spec.name.bytes(), b" conn ", entries.len() as u64)?;
     push_conn_lines(alloc, text, entries)?;
-    push_tail(text, journal.object())?;
+    push_tail(text, zone)?;
     Ok(())
 }
 
 /// Adds the history of an upstream's zone: the line that begins it, a line for each call, and how full the zone is.
-fn push_peer_zone(
+pub(crate) fn push_peer_zone(
     alloc: Global,
     text: &mut Vec<u8>,
     spec: &PeerData,
-    journal: &Journal<PeerZone>,
+    zone: &PeerZone,
+    entries: &[Entry<PeerZone>],
 ) -> Result<(), NoMemory>
-    requires { (room : ℕ) × RunsPeer spec.now room journal.now }
-    ensures { (room : ℕ) → RunsPeer spec.now room journal.now → OnOk result (text.new.items ≡ text.old.items ++ peer_text spec.now journal.now.log) }
+    requires { IsPeerAfter spec.now entries.now zone.now }
+    ensures { OnOk result (text.new.items ≡ text.old.items ++ peer_text spec.now entries.now) }
 {
-    let entries = journal.entries();
     push_zone_head(text, spec.name.bytes(), b" peer ", entries.len() as u64)?;
     push_peer_lines(alloc, text, entries)?;
-    push_tail(text, journal.object())?;
+    push_tail(text, zone)?;
     Ok(())
 }
 
-/// Adds the history of a zone.
+/// Adds the history of a zone that has a journal.
 fn push_zone(
     alloc: Global,
     text: &mut Vec<u8>,
@@ -121,24 +122,24 @@ fn push_zone(
     zone: &ZoneJournal,
 ) -> Result<(), NoMemory>
     requires { (room : ℕ) × IsJournalOf spec.now room zone.now }
-    ensures { (room : ℕ) → IsJournalOf spec.now room zone.now → OnOk result (text.new.items ≡ text.old.items ++ zone_text spec.now (log_of zone.now)) }
+    ensures { OnOk result (text.new.items ≡ text.old.items ++ zone_text spec.now (log_of zone.now)) }
 {
     match (spec, zone) {
         (ZoneSpec::Req { spec, key: _ }, ZoneJournal::Req { journal }) => {
-            push_req_zone(alloc, text, spec, journal)
+            push_req_zone(alloc, text, spec, journal.object(), journal.entries())
         }
         (ZoneSpec::Conn { spec, key: _ }, ZoneJournal::Conn { journal }) => {
-            push_conn_zone(alloc, text, spec, journal)
+            push_conn_zone(alloc, text, spec, journal.object(), journal.entries())
         }
         (ZoneSpec::Peer { spec, line: _ }, ZoneJournal::Peer { journal }) => {
-            push_peer_zone(alloc, text, spec, journal)
+            push_peer_zone(alloc, text, spec, journal.object(), journal.entries())
         }
         _ => unreachable!(),
     }
 }
 
-/// Adds the histories of all zones in their order: for each the line that begins it, a line for each call, and how full the
-/// zone is. `NoMemory`: there was none for the text.
+/// Adds the histories of all zones that have journals, in their order: for each the line that begins it, a line for each
+/// call, and how full the zone is. `NoMemory`: there was none for the text.
 pub fn push_zones(
     alloc: Global,
     text: &mut Vec<u8>,

@@ -1,7 +1,9 @@
 ghost use Rattle.std.specs.Prelude.{ℕ, ◌≡◌, ◌<◌, ◌++◌, List, OnOk, length, map, slice_get};
 ghost use Rattle.zone_config.specs.Configuration.{zone_name};
 ghost use Rattle.request_script.specs.Turn.{Exchange};
-ghost use Rattle.replay_share.specs.Journals.{RunsReq, RunsConn, RunsPeer, IsJournalOf, Serves, log_of};
+ghost use Rattle.replay_share.specs.Logs.{ReqEntry, ConnEntry, PeerEntry};
+ghost use Rattle.replay_share.specs.Journals.{IsJournalOf, Serves, log_of};
+ghost use Rattle.replay_text.specs.After.{IsReqAfter, IsConnAfter, IsPeerAfter};
 ghost use Rattle.replay_text.specs.Images.{AddsWords, LaysReqAfter, LaysConnAfter, LaysPeerAfter, LaysAfter, ShowsWordsAt};
 
 use conn_zone::ConnZone;
@@ -11,49 +13,48 @@ use replay_share::{Journals, ZoneJournal};
 use req_zone::ReqZone;
 use std::alloc::Global;
 use zone_config::{ConnData, PeerData, ReqData, ZoneSpec};
-use zone_object::Journal;
 use zone_outside::NoMemory;
 
 /// Adds the words of a request zone.
-fn push_req_words(
+pub(crate) fn push_req_words(
     alloc: Global,
     text: &mut Vec<u8>,
     spec: &ReqData,
-    journal: &Journal<ReqZone>,
+    zone: &ReqZone,
 ) -> Result<(), NoMemory>
-    ensures { (room : ℕ) → RunsReq spec.now room journal.now → OnOk result (AddsWords spec.now.name (LaysReqAfter spec.now journal.now.log) text.old.items text.new.items) }
+    ensures { (log : List ReqEntry) → IsReqAfter spec.now log zone.now → OnOk result (AddsWords spec.now.name (LaysReqAfter spec.now log) text.old.items text.new.items) }
 {
-    push_image(alloc, text, spec.name.bytes(), journal.object())?;
+    push_image(alloc, text, spec.name.bytes(), zone)?;
     Ok(())
 }
 
 /// Adds the words of a connection zone.
-fn push_conn_words(
+pub(crate) fn push_conn_words(
     alloc: Global,
     text: &mut Vec<u8>,
     spec: &ConnData,
-    journal: &Journal<ConnZone>,
+    zone: &ConnZone,
 ) -> Result<(), NoMemory>
-    ensures { (room : ℕ) → RunsConn spec.now room journal.now → OnOk result (AddsWords spec.now.name (LaysConnAfter spec.now journal.now.log) text.old.items text.new.items) }
+    ensures { (log : List ConnEntry) → IsConnAfter spec.now log zone.now → OnOk result (AddsWords spec.now.name (LaysConnAfter spec.now log) text.old.items text.new.items) }
 {
-    push_image(alloc, text, spec.name.bytes(), journal.object())?;
+    push_image(alloc, text, spec.name.bytes(), zone)?;
     Ok(())
 }
 
 /// Adds the words of an upstream's zone.
-fn push_peer_words(
+pub(crate) fn push_peer_words(
     alloc: Global,
     text: &mut Vec<u8>,
     spec: &PeerData,
-    journal: &Journal<PeerZone>,
+    zone: &PeerZone,
 ) -> Result<(), NoMemory>
-    ensures { (room : ℕ) → RunsPeer spec.now room journal.now → OnOk result (AddsWords spec.now.name (LaysPeerAfter spec.now journal.now.log) text.old.items text.new.items) }
+    ensures { (log : List PeerEntry) → IsPeerAfter spec.now log zone.now → OnOk result (AddsWords spec.now.name (LaysPeerAfter spec.now log) text.old.items text.new.items) }
 {
-    push_image(alloc, text, spec.name.bytes(), journal.object())?;
+    push_image(alloc, text, spec.name.bytes(), zone)?;
     Ok(())
 }
 
-/// Adds the words of a zone.
+/// Adds the words of a zone that has a journal.
 fn push_words(
     alloc: Global,
     text: &mut Vec<u8>,
@@ -61,17 +62,17 @@ fn push_words(
     zone: &ZoneJournal,
 ) -> Result<(), NoMemory>
     requires { (room : ℕ) × IsJournalOf spec.now room zone.now }
-    ensures { (room : ℕ) → IsJournalOf spec.now room zone.now → OnOk result (AddsWords (zone_name spec.now) (LaysAfter spec.now (log_of zone.now)) text.old.items text.new.items) }
+    ensures { OnOk result (AddsWords (zone_name spec.now) (LaysAfter spec.now (log_of zone.now)) text.old.items text.new.items) }
 {
     match (spec, zone) {
         (ZoneSpec::Req { spec, key: _ }, ZoneJournal::Req { journal }) => {
-            push_req_words(alloc, text, spec, journal)
+            push_req_words(alloc, text, spec, journal.object())
         }
         (ZoneSpec::Conn { spec, key: _ }, ZoneJournal::Conn { journal }) => {
-            push_conn_words(alloc, text, spec, journal)
+            push_conn_words(alloc, text, spec, journal.object())
         }
         (ZoneSpec::Peer { spec, line: _ }, ZoneJournal::Peer { journal }) => {
-            push_peer_words(alloc, text, spec, journal)
+            push_peer_words(alloc, text, spec, journal.object())
         }
         _ => unreachable!(),
     }

@@ -60,7 +60,7 @@ fn printed(alloc: Global, config: &Config, lines: &[Line]) -> Result<Vec<u8>, Fa
 {
     let room = lines.len() as u32 * 3;
     let mut zones = Journals::open(alloc, config.zones.as_slice(), room)?;
-    let decisions = replay_share(alloc, config, lines, &mut zones)?;
+    let decisions = replay_share(alloc, config, lines, 1, 0, &mut zones)?;
     let mut text = Vec::new(alloc);
     push_decisions(&mut text, config, lines, &decisions)?;
     push_zones(alloc, &mut text, config.zones.as_slice(), &zones)?;
