@@ -24,7 +24,7 @@ use Rattle.made_log.specs.MadeConfig.{made_config}
 use Rattle.made_log.specs.MadeLog.{made_lines}
 use Rattle.zonereplay.specs.OneText.{one_text}
 use Rattle.zonereplay.specs.Told.{Told}
-use Rattle.zonereplay.specs.Told.Told.{exactly, replay, replay_words, zone_words, summary}
+use Rattle.zonereplay.specs.Told.Told.{exactly, replay, replay_with_words, zone_words, summary}
 
 -- the steps that are left
 pub data Plan : Type 0 where
@@ -137,7 +137,7 @@ made_plan seed lines = writes (summary made_config (made_lines seed lines))
 -- what is told of a replay on so many workers, without the words of the zones or with them
 abbrev pub workers_told : ℕ → Bool → Config → List Line → Told
 workers_told workers false config = λ lines. replay config workers lines
-workers_told workers true config = λ lines. replay_words config workers lines
+workers_told workers true config = λ lines. replay_with_words config workers lines
 
 -- the log is replayed on so many workers
 abbrev pub workers_log : List ℕ → ℕ → Bool → Config → Plan

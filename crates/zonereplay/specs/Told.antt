@@ -1,12 +1,11 @@
 -- What a command writes, as it was asked for.
-use Rattle.std.specs.Prelude.{ℕ, ◌≡◌, List, ◌++◌, map, slice_get}
-use Rattle.std.specs.List.{flat_map}
+use Rattle.std.specs.Prelude.{ℕ, ◌≡◌, List, map, slice_get}
 use Rattle.zone_config.specs.declared.data.Config.{Config}
 use Rattle.replay_log.specs.declared.line.Line.{Line}
 use Rattle.replay_share.specs.Logs.{ZoneLog}
 use Rattle.replay_share.specs.Replay.{Decided, decision_of, IsReplay}
-use Rattle.replay_text.specs.ReplayText.{decided_line, replay_text}
-use Rattle.replay_text.specs.Images.{AreImages, ShowsWordsAt, words_text}
+use Rattle.replay_text.specs.ReplayText.{replay_text}
+use Rattle.replay_text.specs.Images.{AreImages, ShowsWordsAt, replay_text_with_words}
 use Rattle.made_log.specs.Summary.{summary_text}
 
 -- what was asked to be written
@@ -16,7 +15,7 @@ pub data Told : Type 0 where
   -- a replay of these lines by so many workers in the zones of a configuration
   replay : (config : Config) (workers : ℕ) (lines : List Line) → Told
   -- the same, and the words of each zone
-  replay_words : (config : Config) (workers : ℕ) (lines : List Line) → Told
+  replay_with_words : (config : Config) (workers : ℕ) (lines : List Line) → Told
   -- the words of the zone of this number after a replay of these lines by one worker
   zone_words : (config : Config) (zone : ℕ) (lines : List Line) → Told
   -- the summary of a replay of these lines by one worker
@@ -29,18 +28,14 @@ pub record ShowsReplay (config : Config) (workers : ℕ) (lines : List Line) (te
   pub played : IsReplay config workers lines decided logs
   pub text_is : text ≡ replay_text config decided logs
 
--- the text of a replay in which each zone's words stand behind its history: those of each zone are given
-abbrev pub replay_words_text : Config → List Decided → List ZoneLog → List (List ℕ) → List ℕ
-replay_words_text config decided logs images = flat_map (decided_line config) decided ++ words_text config.zones logs images
-
 -- The text of a replay with the words of each zone: they lay out the zone's state after its history.
-pub record ShowsReplayWords (config : Config) (workers : ℕ) (lines : List Line) (text : List ℕ) : Type 0 where
+pub record ShowsReplayWithWords (config : Config) (workers : ℕ) (lines : List Line) (text : List ℕ) : Type 0 where
   pub decided : List Decided
   pub logs : List ZoneLog
   pub images : List (List ℕ)
   pub played : IsReplay config workers lines decided logs
   pub laid : AreImages config.zones logs images
-  pub text_is : text ≡ replay_words_text config decided logs images
+  pub text_is : text ≡ replay_text_with_words config decided logs images
 
 -- The text of a zone's words after a replay by one worker: they lay out the zone's state after its history.
 pub record ShowsImage (config : Config) (zone : ℕ) (lines : List Line) (text : List ℕ) : Type 0 where
@@ -60,6 +55,6 @@ pub record ShowsSummary (config : Config) (lines : List Line) (text : List ℕ) 
 abbrev pub Shows : Told → List ℕ → Type 0
 Shows (exactly asked) text = text ≡ asked
 Shows (replay config workers lines) text = ShowsReplay config workers lines text
-Shows (replay_words config workers lines) text = ShowsReplayWords config workers lines text
+Shows (replay_with_words config workers lines) text = ShowsReplayWithWords config workers lines text
 Shows (zone_words config zone lines) text = ShowsImage config zone lines text
 Shows (summary config lines) text = ShowsSummary config lines text

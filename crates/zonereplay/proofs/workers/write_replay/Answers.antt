@@ -6,7 +6,7 @@ use Rattle.replay_share.specs.Asked.{IsAt}
 use Rattle.replay_workers.specs.declared.history.ZoneHistory.{ZoneHistory}
 use Rattle.replay_workers.specs.Columns.{IsRunOf, log_of}
 use Rattle.replay_text.specs.ReplayText.{decided_line, zones_text}
-use Rattle.replay_text.specs.Images.{AreImages, words_text}
+use Rattle.replay_text.specs.Images.{AreImages, zones_text_with_words}
 use Rattle.zonereplay.specs.Plan.{workers_told}
 use Rattle.zonereplay.specs.Told.{Shows}
 use Rattle.zonereplay.proofs.WorkerLemmas.{shows_histories, shows_all_words}
