@@ -26,6 +26,23 @@ pub push_histories-requires : goal.push_histories-requires
 push_histories-requires g c =
     (c.args.job.workers, ran_among c.args.job.workers c.args.config.now.zones c.as_slice.result.now c.in_ok-decisions.left.items c.deref-2.result.now c.as_slice.ensures c.deref-2.ensures.value c.in_ok-decisions.ensures.ran)
 
+pub returns-then-words : goal.returns-then-words
+returns-then-words g c =
+    let config = c.args.config.now in
+    let workers = c.args.job.workers in
+    let text = c.from_vec.result in
+    let first = c.push_decisions.new.text.items in
+    let left = c.in_ok-decisions.left.items in
+    let behind = c.in_ok-push_histories_with_words.ensures in
+    let images = behind.0 in
+    let given_zones = c.as_slice.result.now in
+    let given_left = c.deref-2.result.now in
+    let laid = subst (λ (zs : List ZoneSpec). AreImages zs (map log_of left) images) c.as_slice.ensures (subst (λ (hs : List ZoneHistory). AreImages given_zones (map log_of hs) images) c.deref-2.ensures.value behind.1) in
+    let text_is : text ≡ first ++ zones_text_with_words config.zones (map log_of left) images = c.from_vec.ensures ∙ behind.2 ∙ ap (λ (zs : List ZoneSpec). first ++ zones_text_with_words zs (map log_of given_left) images) c.as_slice.ensures ∙ ap (λ (hs : List ZoneHistory). first ++ zones_text_with_words config.zones (map log_of hs) images) c.deref-2.ensures.value in
+    let shown = shows_all_words config workers c.args.lines.now c.in_ok-decisions.decisions.items left first text c.in_ok-decisions.ensures
+    (λ decided lines_are decisions_are. c.in_ok-push_decisions.ensures decided lines_are (decisions_are ∙ sym c.deref.ensures.value) ∙ ap (λ (t : List ℕ). t ++ flat_map (decided_line config) decided) c.new-text.ensures.items) images laid text_is in
+    subst (λ (b : Bool). Shows (workers_told workers b config c.args.lines.now) text) (sym c.if-words.true) shown
+
 pub returns : goal.returns
 returns g c =
     let config = c.args.config.now in
