@@ -37,14 +37,12 @@ lines-grow line old text new es i place d e low is placed had grew =
     (ap (λ (n : ℕ). lines_from line 1 (take i es) ++ line n e) at ∙ lines-push line 1 es i d e low is))
 
 -- a text that gets the three parts of a history has it
-pub history-text : {E : Type 0} (line : ℕ → E → List ℕ) (kind name given : List ℕ) (entries log : List E) (old first second third tail : List ℕ) → given ≡ name → entries ≡ log
-    → first ≡ old ++ zone_head given kind (length entries) → second ≡ first ++ lines_from line 1 entries → third ≡ second ++ tail
+pub history-text : {E : Type 0} (line : ℕ → E → List ℕ) (kind name given : List ℕ) (log : List E) (old first second third tail : List ℕ) → given ≡ name
+    → first ≡ old ++ zone_head given kind (length log) → second ≡ first ++ lines_from line 1 log → third ≡ second ++ tail
     → third ≡ old ++ (zone_head name kind (length log) ++ lines_from line 1 log ++ tail)
-history-text line kind name given entries log old first second third tail name_is log_is head lines rest =
-    let heads : zone_head given kind (length entries) ≡ zone_head name kind (length log) = ap (λ (x : List ℕ). zone_head x kind (length entries)) name_is ∙ ap (λ (x : List _). zone_head name kind (length x)) log_is in
-    let begun : first ≡ old ++ zone_head name kind (length log) = head ∙ ap (λ (t : List ℕ). old ++ t) heads in
-    let listed : second ≡ first ++ lines_from line 1 log = lines ∙ ap (λ (x : List _). first ++ lines_from line 1 x) log_is in
-    let both = text-more old first second (zone_head name kind (length log)) (lines_from line 1 log) (zone_head name kind (length log) ++ lines_from line 1 log) begun listed refl in
+history-text line kind name given log old first second third tail name_is head lines rest =
+    let begun : first ≡ old ++ zone_head name kind (length log) = head ∙ ap (λ (x : List ℕ). old ++ zone_head x kind (length log)) name_is in
+    let both = text-more old first second (zone_head name kind (length log)) (lines_from line 1 log) (zone_head name kind (length log) ++ lines_from line 1 log) begun lines refl in
     text-more old second third (zone_head name kind (length log) ++ lines_from line 1 log) tail (zone_head name kind (length log) ++ lines_from line 1 log ++ tail) both rest refl
 
 -- ---- decisions

@@ -1,7 +1,5 @@
-use Rattle.std.proofs.Common.{◌++◌, List, ℕ, ap, subst, sym, ◌∙◌}
+use Rattle.std.proofs.Common.{◌++◌, List, ℕ, ap, ◌∙◌}
 use Rattle.zone_object.specs.History.{run}
-use Rattle.peer_zone.specs.declared.words.PeerWords.{PeerWords}
-use Rattle.peer_zone.specs.Lays.{Lays}
 use Rattle.peer_zone.specs.Object as peer
 use Rattle.peer_zone.specs.WordsLaws.{image-law}
 use Rattle.decision_text.specs.TailText.{image_text}
@@ -9,13 +7,12 @@ use Rattle.replay_share.specs.Logs.{peer_opened}
 use Rattle.replay_text.proofs.images.push_peer_words.Goals as goal
 
 pub returns : goal.returns
-returns c room runs =
-    let zone = c.object.result.now in
-    let s = run peer.zone_after (peer_opened c.args.spec.now) c.args.journal.now.log in
-    let laid = subst (λ (z : PeerWords). Lays z s) (sym c.object.ensures) runs.ran.laid in
+returns c log laid =
+    let zone = c.args.zone.now in
     record {
       words = zone.pool.words;
-      laid = image-law zone s laid;
+      laid = image-law zone (run peer.zone_after (peer_opened c.args.spec.now) log) laid;
       wide = c.in_ok-push_image.ensures.wide;
+      short = c.in_ok-push_image.ensures.short;
       grown = c.in_ok-push_image.ensures.text ∙ ap (λ (name : List ℕ). c.args.text.now.items ++ image_text name zone.pool.words) c.bytes.ensures;
     }
