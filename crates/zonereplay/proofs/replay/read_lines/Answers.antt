@@ -20,8 +20,8 @@ returns-in-Err-At g c =
     let after : Files = record { contents = g.F.Shelf.contents c.read_text.new.files; faults = g.F.Shelf.faults c.read_text.new.files } in
     log_faulty c.args.log.now c.args.config.now before after c.in-Ok.text c.deref.result.now c.in-Ok.ensures c.deref.ensures.value c.in-Err-At.line c.in-Err-At.kind c.in-Err-At.ensures.value
 
-pub returns-in-Err-NoMemory : goal.returns-in-Err-NoMemory
-returns-in-Err-NoMemory g c =
+pub returns : goal.returns
+returns g c =
     let before : Files = record { contents = g.F.Shelf.contents c.args.files.now; faults = g.F.Shelf.faults c.args.files.now } in
     let after : Files = record { contents = g.F.Shelf.contents c.read_text.new.files; faults = g.F.Shelf.faults c.read_text.new.files } in
     log_too_large c.args.log.now c.args.config.now before after c.in-Ok.text c.in-Ok.ensures
