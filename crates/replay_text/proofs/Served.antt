@@ -1,4 +1,4 @@
--- What the journals of served zones tell of their texts.
+-- What stands for the zones of a configuration tells of their texts.
 use Rattle.std.proofs.Common.{ℕ, zero, suc, ◌≡◌, ◌+◌, ◌<◌, ◌≤◌, List, [], ◌∷◌, ◌++◌, length, map, get_or, take, min, subst, sym, ap, refl, add-one, ◌∙◌, arith, append_assoc, append-nil}
 use Rattle.std.specs.Prelude.{Option, Some, None, slice_get}
 use Rattle.std.proofs.Math.Seq.{take-length}

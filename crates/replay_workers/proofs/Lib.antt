@@ -7,3 +7,4 @@ pub mod Turning
 pub mod Ended
 pub mod NewPasses
 pub mod Outcome
+pub mod Together
