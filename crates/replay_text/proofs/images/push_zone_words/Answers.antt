@@ -6,17 +6,16 @@ use Rattle.zone_outside.specs.declared.errors.NoMemory.{NoMemory}
 use Rattle.zone_config.specs.declared.data.ZoneSpec.{ZoneSpec}
 use Rattle.zone_config.specs.Configuration.{zone_name}
 use Rattle.replay_share.specs.declared.journal.ZoneJournal.{ZoneJournal}
-use Rattle.replay_share.specs.Journals.{IsJournalOf, Serves, log_of}
-use Rattle.request_script.specs.Turn.{Exchange}
+use Rattle.replay_share.specs.Journals.{HasJournal, log_of}
 use Rattle.replay_share.specs.Logs.{ZoneLog}
 use Rattle.decision_text.specs.TailText.{image_text}
 use Rattle.replay_text.specs.Images.{AddsWords, LaysAfter, ShowsWords, ShowsWordsAt}
-use Rattle.replay_text.proofs.Served.{HaveJournals, as-many, journal-at}
+use Rattle.replay_text.proofs.Served.{HaveEach, as-many, one-at}
 use Rattle.replay_text.proofs.images.push_zone_words.Goals as goal
 
 -- a place among the zones is one among their journals
-below : (room : ℕ) (specs : List ZoneSpec) (journals : List ZoneJournal) (n : ℕ) → HaveJournals room specs journals → n < length specs → n < length journals
-below room specs journals n at low = let many = as-many room specs journals at in omega (arith, many, low)
+below : (room : ℕ) (specs : List ZoneSpec) (journals : List ZoneJournal) (n : ℕ) → HaveEach (HasJournal room 0) specs journals → n < length specs → n < length journals
+below room specs journals n at low = let many = as-many (HasJournal room 0) specs journals at in omega (arith, many, low)
 
 -- words that were added at a place are those of the zone and the history that stand there
 shows : (specs : List ZoneSpec) (journals : List ZoneJournal) (n : ℕ) (spec : ZoneSpec) (journal : ZoneJournal) (old new : List ℕ) → n < length specs → n < length journals
@@ -24,7 +23,7 @@ shows : (specs : List ZoneSpec) (journals : List ZoneJournal) (n : ℕ) (spec : 
     → (image : List ℕ) × ShowsWordsAt (slice_get specs n) (slice_get (map log_of journals) n) image × (new ≡ old ++ image)
 shows specs journals n spec journal old new low low_journal spec_is journal_is added =
     let image = image_text (zone_name spec) added.words in
-    let shown : ShowsWords spec (log_of journal) image = record { words = added.words; image = record { laid = added.laid; wide = added.wide }; text_is = refl } in
+    let shown : ShowsWords spec (log_of journal) image = record { words = added.words; image = record { laid = added.laid; wide = added.wide; short = added.short }; text_is = refl } in
     let spec_at : slice_get specs n ≡ Some spec = slice_get-get_or specs n spec low ∙ ap Some (sym spec_is) in
     let journal_at : slice_get journals n ≡ Some journal = slice_get-get_or journals n journal low_journal ∙ ap Some (sym journal_is) in
     let log_at : slice_get (map log_of journals) n ≡ Some (log_of journal) = slice_get-map log_of journals n ∙ ap (option_map log_of) journal_at in (
@@ -45,7 +44,7 @@ push_words-requires c =
     let n = c.args.number in
     let journal = c.index-journals-number.result in (
       served.0,
-      journal-at served.0 specs zones n c.index-specs-number.result journal served.2.each c.requires.there (below served.0 specs zones n served.2.each c.requires.there) c.index-specs-number.is
+      one-at (HasJournal served.0 0) specs zones n c.index-specs-number.result journal served.2.each c.requires.there (below served.0 specs zones n served.2.each c.requires.there) c.index-specs-number.is
           (c.index-journals-number.is ∙ ap (λ (js : List ZoneJournal). get_or js n journal) c.as_slice-journals.ensures),
     )
 
@@ -60,6 +59,5 @@ returns c room asked serves =
     let new = c.push_words.new.text.items in
     let low = below room specs zones n serves.each c.requires.there in
     let journal_is : journal ≡ get_or zones n journal = c.index-journals-number.is ∙ ap (λ (js : List ZoneJournal). get_or js n journal) c.as_slice-journals.ensures in
-    let kept = journal-at room specs zones n spec journal serves.each c.requires.there low c.index-specs-number.is journal_is in
     when_ok (AddsWords (zone_name spec) (LaysAfter spec (log_of journal)) old new) ((image : List ℕ) × ShowsWordsAt (slice_get specs n) (slice_get (map log_of zones) n) image × (new ≡ old ++ image)) c.push_words.result
-    (shows specs zones n spec journal old new c.requires.there low c.index-specs-number.is journal_is) (c.push_words.ensures room kept)
+    (shows specs zones n spec journal old new c.requires.there low c.index-specs-number.is journal_is) c.push_words.ensures
