@@ -13,8 +13,7 @@ use Rattle.replay_log.specs.declared.keys.KeyLine.{KeyLine}
 use Rattle.zonereplay.specs.declared.stop.Refusal.{Refusal}
 use Rattle.zonereplay.specs.declared.stop.Refusal.TheVariants.{Usage, TooLong, Text, Rule, Log}
 use Rattle.zonereplay.specs.Words.{Command, OneJob, command_of}
-use Rattle.zonereplay.specs.Words.Command as command
-use Rattle.zonereplay.specs.Words.Command.{one, check, plain, image, made}
+use Rattle.zonereplay.specs.Words.Command.{one, check, plain, image, made, replay as on_workers}
 use Rattle.replay_log.specs.Lines.{Fault}
 use Rattle.replay_log.specs.Keys.{keys_of}
 use Rattle.replay_log.specs.Requests.{requests_of}
@@ -155,7 +154,7 @@ plan_for (Some (check config)) = check_plan config
 plan_for (Some (plain config log)) = plain_plan config log
 plan_for (Some (image config log zone)) = image_plan config log zone
 plan_for (Some (made seed lines)) = made_plan seed lines
-plan_for (Some (command.replay config log workers words)) = replay_plan config log workers words
+plan_for (Some (on_workers config log workers words)) = replay_plan config log workers words
 
 abbrev pub plan_of : List (List ℕ) → Plan
 plan_of words = plan_for (command_of words)
