@@ -7,8 +7,8 @@ use Rattle.replay_share.specs.Share.{HasReplayed}
 use Rattle.replay_share.proofs.Alone.{lines_all}
 use Rattle.zonereplay.proofs.replay.play.Goals as goal
 
-pub replay_share-decisions-requires-clause-fresh : goal.replay_share-decisions-requires-clause-fresh
-replay_share-decisions-requires-clause-fresh c =
+pub replay_share-requires-clause-fresh : goal.replay_share-requires-clause-fresh
+replay_share-requires-clause-fresh c =
     let room : ℕ = length c.args.lines.now * 3 in
     let fresh : Serves c.in-Ok.zones c.args.config.now.zones room [] = subst (λ (zs : List ZoneSpec). Serves c.in-Ok.zones zs room []) c.as_slice.ensures c.in-Ok.ensures.0 in
     (c.in-Ok.zones, room, fresh, omega (arith, ap (λ (ls : List Line). length ls) (lines_all c.args.lines.now)))

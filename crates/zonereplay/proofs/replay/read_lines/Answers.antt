@@ -18,7 +18,7 @@ pub returns-in-Err-At : goal.returns-in-Err-At
 returns-in-Err-At g c =
     let before : Files = record { contents = g.F.Shelf.contents c.args.files.now; faults = g.F.Shelf.faults c.args.files.now } in
     let after : Files = record { contents = g.F.Shelf.contents c.read_text.new.files; faults = g.F.Shelf.faults c.read_text.new.files } in
-    log_faulty c.args.log.now c.args.config.now before after c.in-Ok.text c.deref.result.now c.in-Ok.ensures c.deref.ensures.value c.in-Err-At.line c.in-Err-At.kind c.in-Err-At.ensures.value
+    log_faulty c.args.log.now c.args.config.now before after c.in-Ok.text c.deref.result.now c.in-Ok.ensures c.deref.ensures.value c.in-Err-At.line c.in-Err-At.kind (rw c.in-Err-At.field-0-is at c.in-Err-At.ensures.value)
 
 pub returns : goal.returns
 returns g c =
