@@ -7,3 +7,5 @@ pub mod PlainLemmas
 pub mod ImageLemmas
 pub mod MadeLemmas
 pub mod OneShown
+pub mod LogLemmas
+pub mod WorkerLemmas

@@ -28,7 +28,7 @@ use Rattle.zonereplay.specs.Told.Told.{replay, summary}
 use Rattle.zonereplay.specs.Plan.{Plan, SaysConfig, Ends, MayHold, text_limit, in_limit, unless_refused, with_zones, log_run, plain_log, plain_plan}
 use Rattle.zonereplay.specs.Plan.Plan.{refuses, reads}
 use Rattle.zonereplay.specs.Plan.End.{refused, written}
-use Rattle.zonereplay.specs.OneShown.{OneShown, SomeShown, OnePlain, OneSummary, OneMade}
+use Rattle.zonereplay.specs.OneShown.{OneShown, SomeShown, OnePlain, OneWorker, OneSummary, OneMade}
 
 -- ---- a replay
 
@@ -138,6 +138,11 @@ one_plain contents name log given lines first second name_is log_is h k =
     let shown : Shows (replay one.config 1 one.requests) first = subst (λ (t : Told). Shows t first) one.told_is h.shown in
     let too : Shows (replay one.config 1 one.requests) second = subst (λ (t : Told). Shows t second) (same ∙ one.told_is) k.shown in
     one_shown one.config one.requests first second shown too
+
+-- ---- `replay` on one worker
+
+pub one_worker : OneWorker
+one_worker name log = refl
 
 -- ---- `made`
 

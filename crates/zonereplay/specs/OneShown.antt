@@ -1,5 +1,5 @@
 -- A replay by one worker has one text.
-use Rattle.std.specs.Prelude.{ℕ, ◌≡◌, ◌*◌, ◌<◌, ◌^◌, List, length, Option, Some, None}
+use Rattle.std.specs.Prelude.{ℕ, ◌≡◌, ◌*◌, ◌<◌, ◌^◌, false, List, length, Option, Some, None}
 use Rattle.std.specs.List.{All}
 use Rattle.zone_config.specs.declared.data.Config.{Config}
 use Rattle.zone_config.specs.Conditions.{IsConfig}
@@ -7,7 +7,7 @@ use Rattle.replay_log.specs.declared.line.Line.{Line}
 use Rattle.replay_log.specs.Limits.{IsLineOf}
 use Rattle.replay_share.specs.Opening.{refused_line}
 use Rattle.zonereplay.specs.Told.{ShowsReplay, ShowsSummary}
-use Rattle.zonereplay.specs.Plan.{plain_plan, made_plan}
+use Rattle.zonereplay.specs.Plan.{plain_plan, made_plan, replay_plan}
 use Rattle.zonereplay.specs.Stages.{Prints}
 
 -- Two texts that show a replay of the same lines by one worker are equal.
@@ -23,6 +23,10 @@ SomeShown = (config : Config) (lines : List Line) → IsConfig config → refuse
 abbrev pub OnePlain : Type 0
 OnePlain = (contents : List ℕ → Option (List ℕ)) (name log given lines : List ℕ) (first second : List ℕ) → contents name ≡ Some given → contents log ≡ Some lines
     → Prints contents (plain_plan name log) first → Prints contents (plain_plan name log) second → first ≡ second
+
+-- `replay` on one worker, without `words`, does what `plain` does.
+abbrev pub OneWorker : Type 0
+OneWorker = (name log : List ℕ) → replay_plan name log 1 false ≡ plain_plan name log
 
 -- Two texts that show the summary of a replay of the same lines are equal.
 abbrev pub OneSummary : Type 0

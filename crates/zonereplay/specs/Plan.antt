@@ -1,5 +1,5 @@
 -- What a command does, by its words and by the texts that it reads.
-use Rattle.std.specs.Prelude.{ℕ, ◌≡◌, nat_lt, List, length, Option, Some, None, Result, Ok, Err, if◌then◌else◌, ◌⊎◌}
+use Rattle.std.specs.Prelude.{ℕ, ◌≡◌, nat_lt, Bool, true, false, List, length, Option, Some, None, Result, Ok, Err, if◌then◌else◌, ◌⊎◌}
 use Rattle.std.specs.List.{position}
 use Rattle.directive_text.specs.declared.tree.Directive.{Directive}
 use Rattle.directive_text.specs.Spelling.{Spells}
@@ -13,7 +13,7 @@ use Rattle.replay_log.specs.declared.keys.KeyLine.{KeyLine}
 use Rattle.zonereplay.specs.declared.stop.Refusal.{Refusal}
 use Rattle.zonereplay.specs.declared.stop.Refusal.TheVariants.{Usage, TooLong, Text, Rule, Log}
 use Rattle.zonereplay.specs.Words.{Command, OneJob, command_of}
-use Rattle.zonereplay.specs.Words.Command.{one, check, plain, image, made}
+use Rattle.zonereplay.specs.Words.Command.{one, check, plain, image, made, replay as on_workers}
 use Rattle.replay_log.specs.Lines.{Fault}
 use Rattle.replay_log.specs.Keys.{keys_of}
 use Rattle.replay_log.specs.Requests.{requests_of}
@@ -23,7 +23,7 @@ use Rattle.made_log.specs.MadeConfig.{made_config}
 use Rattle.made_log.specs.MadeLog.{made_lines}
 use Rattle.zonereplay.specs.OneText.{one_text}
 use Rattle.zonereplay.specs.Told.{Told}
-use Rattle.zonereplay.specs.Told.Told.{exactly, replay, zone_words, summary}
+use Rattle.zonereplay.specs.Told.Told.{exactly, replay, replay_with_words, zone_words, summary}
 
 -- the steps that are left
 pub data Plan : Type 0 where
@@ -133,6 +133,19 @@ image_plan name log zone = reads name (in_limit (λ text. with_zones text (image
 abbrev pub made_plan : ℕ → ℕ → Plan
 made_plan seed lines = writes (summary made_config (made_lines seed lines))
 
+-- what is told of a replay on so many workers, without the words of the zones or with them
+abbrev pub workers_told : ℕ → Bool → Config → List Line → Told
+workers_told workers false config = λ lines. replay config workers lines
+workers_told workers true config = λ lines. replay_with_words config workers lines
+
+-- the log is replayed on so many workers
+abbrev pub workers_log : List ℕ → ℕ → Bool → Config → Plan
+workers_log log workers words config = log_plan log config (workers_told workers words config)
+
+-- `replay CONFIG LOG WORKERS`, and the same with `words`
+abbrev pub replay_plan : List ℕ → List ℕ → ℕ → Bool → Plan
+replay_plan name log workers words = reads name (in_limit (λ text. with_zones text (workers_log log workers words)))
+
 -- words of no form are refused
 abbrev pub plan_for : Option Command → Plan
 plan_for None = refuses Usage
@@ -141,6 +154,7 @@ plan_for (Some (check config)) = check_plan config
 plan_for (Some (plain config log)) = plain_plan config log
 plan_for (Some (image config log zone)) = image_plan config log zone
 plan_for (Some (made seed lines)) = made_plan seed lines
+plan_for (Some (on_workers config log workers words)) = replay_plan config log workers words
 
 abbrev pub plan_of : List (List ℕ) → Plan
 plan_of words = plan_for (command_of words)

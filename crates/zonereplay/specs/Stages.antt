@@ -1,9 +1,12 @@
 -- The stages of a command: it reads its texts, prepares all that it writes, and concludes.
 use Rattle.std.specs.Prelude.{ℕ, ◌≡◌, ◌≤◌, ◌⊎◌, List, [], length, Option, None, Result, Ok, Err, MatchResult}
+use Rattle.std.specs.List.{All}
 use Rattle.std.specs.declared.vec.Vec.{Vec}
 use Rattle.std.specs.declared.alloc.Global.{Global}
 use Rattle.zone_config.specs.declared.data.Config.{Config}
 use Rattle.zone_config.specs.Conditions.{IsConfig}
+use Rattle.replay_log.specs.declared.line.Line.{Line}
+use Rattle.replay_log.specs.Limits.{IsLineOf}
 use Rattle.replay_share.specs.Opening.{refused_line}
 use Rattle.zonereplay.specs.declared.status.Status.{Status}
 use Rattle.zonereplay.specs.declared.status.Status.TheVariants.{Done, ConfigFault, LogFault, WriteFault, NoMemory}
@@ -12,7 +15,7 @@ use Rattle.zonereplay.specs.declared.stop.Stop.{Stop}
 use Rattle.zonereplay.specs.declared.stop.Stop.TheVariants as stop
 use Rattle.zonereplay.specs.Stops.{status_of, line_of}
 use Rattle.zonereplay.specs.Told.{Told, Shows}
-use Rattle.zonereplay.specs.Plan.{Plan, SaysConfig, IsWrong, Ends, MayHold, in_limit, text_limit, with_zones}
+use Rattle.zonereplay.specs.Plan.{Plan, SaysConfig, IsWrong, Ends, MayHold, in_limit, text_limit, with_zones, log_plan}
 use Rattle.zonereplay.specs.Plan.Plan.{reads}
 use Rattle.zonereplay.specs.Plan.End.{refused, written}
 use Rattle.zonereplay.specs.Devices.{Files, Taken, FilesCalm, TakesWhole, TakesNone, TakesPart, TakesFault, Tries, write_fault}
@@ -55,6 +58,19 @@ OpensConfig text (Ok config) = IsUsable text config
 OpensConfig text (Err (stop.Refused refusal)) = (contents : List ℕ → Option (List ℕ)) (next : Config → Plan) → Ends contents (with_zones text next) (refused refusal)
 OpensConfig text (Err stop.ReadFault) = ⊥
 OpensConfig text (Err stop.NoMemory) = Unit {0}
+
+-- ---- reading a log
+
+-- the lines of a log were read, in their limits, and each plan that begins with it goes on to what is told of them
+pub record HasLines (name : List ℕ) (config : Config) (contents : List ℕ → Option (List ℕ)) (lines : List Line) : Type 0 where
+  pub limits : All (IsLineOf (length config.locations)) lines
+  pub few : length lines ≤ 131072
+  pub ends : (told : List Line → Told) → Ends contents (log_plan name config told) (written (told lines))
+
+-- a log was read with the locations of a configuration: its lines, or why each plan that begins with it stops
+pub record ReadsLog (name : List ℕ) (config : Config) (before after : Files) (read : Result (Vec Line Global) Stop) : Type 0 where
+  pub files : FilesKept before after
+  pub gives : MatchResult read (λ lines. HasLines name config before.contents lines.items × FilesCalm before after) (λ why. (told : List Line → Told) → Stops (log_plan name config told) before after why)
 
 -- ---- preparing
 

@@ -1,5 +1,5 @@
 -- The words of the command line.
-use Rattle.std.specs.Prelude.{ℕ, ◌-◌, ◌*◌, ◌/◌, ◌^◌, ◌||◌, ◌&&◌, ◌==◌, nat_le, if◌then◌else◌, List, [], ◌∷◌, length, take, drop, slice_index, Option, Some, None, codes}
+use Rattle.std.specs.Prelude.{ℕ, ◌-◌, ◌*◌, ◌/◌, ◌^◌, Bool, true, false, ◌||◌, ◌&&◌, ◌==◌, nat_le, if◌then◌else◌, List, [], ◌∷◌, length, take, drop, slice_index, Option, Some, None, codes}
 use Rattle.std.specs.Option.{option_map}
 use Rattle.std.specs.Str.{bytes_eq}
 use Rattle.zone_outside.specs.Numbers.{number_of}
@@ -67,6 +67,8 @@ pub data Command : Type 0 where
   image : (config log zone : List ℕ) → Command
   -- a log of so many lines is made of a seed and replayed
   made : (seed lines : ℕ) → Command
+  -- a log of requests is replayed on so many workers in the zones of a configuration, by their names; and where words are asked for, so are the words of each zone
+  replay : (config log : List ℕ) (workers : ℕ) (words : Bool) → Command
 
 -- the job, where each of its numbers was read
 abbrev pub one_job : Option ℕ → Option ℕ → Option ℕ → List ℕ → Option Command
@@ -105,6 +107,23 @@ made_of (command ∷ seed ∷ lines ∷ []) =
     if bytes_eq command (codes "made") then made_job (number_of (2 ^ 64 - 1) seed) (number_of 131072 lines) else None
 made_of words = None
 
+-- 1 to 16 workers
+abbrev pub workers_of : List ℕ → Option ℕ
+workers_of word = from_least 1 (number_of 16 word)
+
+-- the job, where the number of workers was read
+abbrev pub replay_job : List ℕ → List ℕ → Option ℕ → Bool → Option Command
+replay_job config log (Some workers) words = Some (replay config log workers words)
+replay_job config log None words = None
+
+-- `replay CONFIG LOG WORKERS`, or the same with a further word `words`
+abbrev pub replay_of : List (List ℕ) → Option Command
+replay_of (command ∷ config ∷ log ∷ workers ∷ []) =
+    if bytes_eq command (codes "replay") then replay_job config log (workers_of workers) false else None
+replay_of (command ∷ config ∷ log ∷ workers ∷ more ∷ []) =
+    if bytes_eq command (codes "replay") then (if bytes_eq more (codes "words") then replay_job config log (workers_of workers) true else None) else None
+replay_of words = None
+
 -- the first of two that is there
 abbrev pub first_form : Option Command → Option Command → Option Command
 first_form None second = second
@@ -112,4 +131,4 @@ first_form (Some command) second = Some command
 
 -- what the words ask for, none where they are of none of the forms that are built
 abbrev pub command_of : List (List ℕ) → Option Command
-command_of words = first_form (one_of words) (first_form (check_of words) (first_form (plain_of words) (first_form (image_of words) (made_of words))))
+command_of words = first_form (one_of words) (first_form (check_of words) (first_form (plain_of words) (first_form (image_of words) (first_form (made_of words) (replay_of words)))))

@@ -1,5 +1,5 @@
 ghost use Rattle.std.specs.Prelude.{◌≡◌, ◌⊎◌, IsSome};
-ghost use Rattle.zonereplay.specs.Words.{one_of, check_of, plain_of, image_of, made_of};
+ghost use Rattle.zonereplay.specs.Words.{one_of, check_of, plain_of, image_of, made_of, replay_of};
 ghost use Rattle.zonereplay.specs.Plan.{plan_of};
 ghost use Rattle.zonereplay.specs.Answers.{Does};
 ghost use Rattle.zonereplay.specs.Stages.{Concludes};
@@ -12,8 +12,12 @@ use crate::prepare::{prepare_check, prepare_one};
 use crate::status::Status;
 use crate::stop::Stop;
 use crate::tell::{tell_stop, tell_write_fault};
-use crate::words::{read_check, read_image, read_made, read_one, read_plain};
+use crate::words::{read_check, read_image, read_made, read_one, read_plain, read_replay};
+use crate::workers::prepare_replay;
+use replay_workers::Gate;
 use std::alloc::Global;
+use std::sync::Wait;
+use std::thread::Threads;
 use zone_outside::{Shelf, Sink, Text};
 
 /// Writes the text that a command prepared, or tells why it stopped.
@@ -184,5 +188,38 @@ pub fn made_command<F: Shelf, O: Sink, E: Sink>(
         unreachable!()
     };
     let prepared = prepare_made(alloc, seed, lines);
+    conclude(alloc, prepared, out, err).code()
+}
+
+/// Replays a log of requests on several workers in the zones of a configuration, and writes what is decided of each line and
+/// each zone's history. The words are `replay CONFIG LOG WORKERS`; with a further word `words`, each zone's words are written
+/// behind its history. It may wait: for a zone's turn, and where the gate waits.
+pub fn replay_command<R: Threads + Wait + Sync, F: Shelf, O: Sink, E: Sink, G: Gate + Sync>(
+    rt: &R,
+    alloc: Global,
+    words: &[Text],
+    files: &mut F,
+    out: &mut O,
+    err: &mut E,
+    gate: &G,
+) -> u8
+    requires { IsSome (replay_of words.now) }
+    ensures { Does (plan_of words.now)
+        (record {
+          files = record { contents = F.contents files.old; faults = F.faults files.old };
+          out = record { text = O.taken out.old; faults = O.faults out.old };
+          err = record { text = E.taken err.old; faults = E.faults err.old };
+        })
+        (record {
+          files = record { contents = F.contents files.new; faults = F.faults files.new };
+          out = record { text = O.taken out.new; faults = O.faults out.new };
+          err = record { text = E.taken err.new; faults = E.faults err.new };
+        })
+        result }
+{
+    let Some((name, log, job)) = read_replay(words) else {
+        unreachable!()
+    };
+    let prepared = prepare_replay(rt, alloc, name, log, job, files, gate);
     conclude(alloc, prepared, out, err).code()
 }

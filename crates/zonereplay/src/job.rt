@@ -1,4 +1,4 @@
-ghost use Rattle.std.specs.Prelude.{◌≤◌};
+ghost use Rattle.std.specs.Prelude.{◌≤◌, ◌<◌};
 ghost use Rattle.req_zone.specs.Amount.{IsRate, greatest_burst};
 
 /// The numbers of `one`.
@@ -14,4 +14,15 @@ pub(crate) struct Job {
     ghost burst_in_limits: { burst ≤ greatest_burst },
     ghost bytes_at_least: { 32768 ≤ bytes },
     ghost bytes_at_most: { bytes ≤ 67108864 },
+}
+
+/// How `replay` goes on.
+#[derive(Clone, Copy, Debug, PartialEq, Eq)]
+pub(crate) struct ReplayJob {
+    /// The workers, from 1 to 16.
+    pub(crate) workers: u32,
+    /// Whether the words of each zone are told.
+    pub(crate) words: bool,
+    ghost some: { 0 < workers },
+    ghost few: { workers ≤ 16 },
 }

@@ -20,8 +20,12 @@ mod tests;
 mod text;
 mod theorems;
 mod words;
+#[cfg(test)]
+mod worker_tests;
+mod workers;
 
 use close::close;
+use replay_workers::OpenGate;
 use run::run;
 use status::Status;
 use std::alloc::Global;
@@ -55,6 +59,8 @@ fn main(rt: HostRuntime) -> ExitCode {
     };
     let mut err = StdSink::of(rt.stderr());
     let mut files = FileShelf::of(&rt);
-    let number = run(&rt, alloc, &words, &mut files, &mut out, &mut err);
+    let number = run(
+        &rt, alloc, &words, &mut files, &mut out, &mut err, &OpenGate,
+    );
     ExitCode::from(close(number, &mut out, &mut err))
 }

@@ -2,15 +2,13 @@ ghost use Rattle.std.specs.Prelude.{ℕ, ◌≡◌, ◌<◌, ◌≤◌, length, 
 ghost use Rattle.std.specs.List.{All};
 ghost use Rattle.zone_config.specs.Conditions.{IsConfig};
 ghost use Rattle.replay_log.specs.Limits.{IsLineOf};
-ghost use Rattle.replay_log.specs.Requests.{requests_of};
 ghost use Rattle.replay_share.specs.Journals.{Serves};
 ghost use Rattle.replay_share.specs.Opening.{refused_line};
 ghost use Rattle.replay_share.specs.Share.{HasReplayed};
 ghost use Rattle.zonereplay.specs.Told.{Shows, ShowsReplay, ShowsImage};
-ghost use Rattle.zonereplay.specs.Plan.{log_plan, log_run};
+ghost use Rattle.zonereplay.specs.Plan.{log_plan};
 ghost use Rattle.zonereplay.specs.Replays.{told_of, IsThere};
-ghost use Rattle.zonereplay.specs.Devices.{Files};
-ghost use Rattle.zonereplay.specs.Stages.{Prepares};
+ghost use Rattle.zonereplay.specs.Stages.{Prepares, ReadsLog};
 
 use crate::prepare::read_text;
 use crate::stop::{Refusal, Stop};
@@ -24,6 +22,11 @@ use zone_outside::{NoMemory, Shelf, Text};
 
 /// The calls that a line makes to one zone at most.
 const CALLS_A_LINE: u32 = 3;
+
+/// One worker, whose number is 0, has all lines.
+const ONE_WORKER: u32 = 1;
+
+const FIRST_WORKER: u32 = 0;
 
 /// What is written of a replay on one worker.
 #[derive(Clone, Copy, Debug)]
@@ -52,7 +55,7 @@ pub(crate) fn play(
         Err(OpeningFault::Refused { line: _ }) => unreachable!(),
         Err(OpeningFault::NoMemory) => return Err(NoMemory),
     };
-    let decisions = replay_share(alloc, config, lines, &mut zones)?;
+    let decisions = replay_share(alloc, config, lines, ONE_WORKER, FIRST_WORKER, &mut zones)?;
     Ok((zones, decisions))
 }
 
@@ -111,23 +114,27 @@ fn write_wanted(
     }
 }
 
-/// The text that is wanted of a log's text. It leaves the files alone, whatever they are.
-fn run_requests(alloc: Global, config: &Config, wanted: Wanted, text: &[u8]) -> Result<Text, Stop>
-    requires config { IsConfig config.now }
-    requires given { refused_line config.now.zones ≡ None }
-    requires there { IsThere wanted config.now }
-    ensures { (files : Files) → Prepares (log_run (told_of wanted config.now) (requests_of config.now.locations text.now)) files files result }
+/// The lines of the log of this name.
+pub(crate) fn read_lines<F: Shelf>(
+    alloc: Global,
+    config: &Config,
+    log: &Text,
+    files: &mut F,
+) -> Result<Vec<Line>, Stop>
+    requires { IsConfig config.now }
+    ensures { ReadsLog log.now config.now
+        (record { contents = F.contents files.old; faults = F.faults files.old })
+        (record { contents = F.contents files.new; faults = F.faults files.new })
+        result }
 {
-    let lines = match read_log(alloc, text, config) {
-        Ok(lines) => lines,
-        Err(LogFault::At { line, kind }) => {
-            return Err(Stop::Refused(Refusal::Log { line, kind }));
-        }
-        Err(LogFault::NoMemory) => return Err(Stop::NoMemory),
+    let text = match read_text(alloc, files, log) {
+        Ok(text) => text,
+        Err(stop) => return Err(stop),
     };
-    match write_wanted(alloc, config, wanted, &lines) {
-        Ok(written) => Ok(written),
-        Err(_) => Err(Stop::NoMemory),
+    match read_log(alloc, &text, config) {
+        Ok(lines) => Ok(lines),
+        Err(LogFault::At { line, kind }) => Err(Stop::Refused(Refusal::Log { line, kind })),
+        Err(LogFault::NoMemory) => Err(Stop::NoMemory),
     }
 }
 
@@ -147,8 +154,12 @@ pub(crate) fn read_requests<F: Shelf>(
         (record { contents = F.contents files.new; faults = F.faults files.new })
         result }
 {
-    match read_text(alloc, files, log) {
-        Ok(text) => run_requests(alloc, config, wanted, &text),
-        Err(stop) => Err(stop),
+    let lines = match read_lines(alloc, config, log, files) {
+        Ok(lines) => lines,
+        Err(stop) => return Err(stop),
+    };
+    match write_wanted(alloc, config, wanted, &lines) {
+        Ok(written) => Ok(written),
+        Err(_) => Err(Stop::NoMemory),
     }
 }

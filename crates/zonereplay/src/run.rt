@@ -3,11 +3,16 @@ ghost use Rattle.zonereplay.specs.Words.{command_of};
 ghost use Rattle.zonereplay.specs.Plan.{plan_of};
 ghost use Rattle.zonereplay.specs.Answers.{Does};
 
-use crate::commands::{check_command, image_command, made_command, one_command, plain_command};
+use crate::commands::{
+    check_command, image_command, made_command, one_command, plain_command, replay_command,
+};
 use crate::stop::{Refusal, Stop};
 use crate::tell::tell_stop;
-use crate::words::{read_check, read_image, read_made, read_one, read_plain};
+use crate::words::{read_check, read_image, read_made, read_one, read_plain, read_replay};
+use replay_workers::Gate;
 use std::alloc::Global;
+use std::sync::Wait;
+use std::thread::Threads;
 use zone_outside::{Shelf, Sink, Text};
 
 /// Does what the words ask for, and answers the status with which the program ends:
@@ -23,14 +28,16 @@ use zone_outside::{Shelf, Sink, Text};
 /// - 7: there was no memory. Nothing was written.
 ///
 /// The earliest of these that holds is answered, in the order of the work: the words, the files in their
-/// order and what they say, the writing. `rt` is the runtime, for commands that run on several workers.
-pub fn run<R, F: Shelf, O: Sink, E: Sink>(
-    _rt: &R,
+/// order and what they say, the writing. `replay` alone may wait: for a zone's turn, and where the gate waits, which is told of
+/// each call that a worker makes to a zone. The other commands run on one thread, and don't look at `rt` and `gate`.
+pub fn run<R: Threads + Wait + Sync, F: Shelf, O: Sink, E: Sink, G: Gate + Sync>(
+    rt: &R,
     alloc: Global,
     words: &[Text],
     files: &mut F,
     out: &mut O,
     err: &mut E,
+    gate: &G,
 ) -> u8
     // Each status has its cause, and with sound texts and devices without faults it is 0 or 7.
     ensures does { Does (plan_of words.now)
@@ -63,6 +70,9 @@ pub fn run<R, F: Shelf, O: Sink, E: Sink>(
     }
     if read_made(words).is_some() {
         return made_command(alloc, words, files, out, err);
+    }
+    if read_replay(words).is_some() {
+        return replay_command(rt, alloc, words, files, out, err, gate);
     }
     tell_stop(alloc, err, Stop::Refused(Refusal::Usage)).code()
 }

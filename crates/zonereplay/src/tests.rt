@@ -1,25 +1,42 @@
 use crate::run::run;
+use replay_workers::{Gate, OpenGate};
 use std::process::Abort;
+use std::sync::Wait;
 use std::test::Fail;
+use std::thread::Threads;
 use zone_outside::{MemFile, MemShelf, MemSink, MemText, Text};
 
+/// Runs these words with a shelf of these files, of whose opens these fail.
+pub(crate) fn run_words<R: AllocGlobal + Threads + Wait + Sync, G: Gate + Sync>(
+    rt: &R,
+    words: &[&str],
+    files: &[MemFile<'_>],
+    failing_opens: &[u64],
+    gate: &G,
+    out: &mut MemSink<'_>,
+    err: &mut MemSink<'_>,
+) -> Result<u8, Fail> {
+    let alloc = rt.alloc();
+    let mut texts = Vec::new(alloc);
+    for word in words {
+        texts.push(Text::of(alloc, word.as_bytes())?)?;
+    }
+    let mut shelf = MemShelf::of(files, failing_opens);
+    Ok(run(rt, alloc, &texts, &mut shelf, out, err, gate))
+}
+
 /// Runs `one` at this rate with a shelf that has one text, named `log`.
-fn status_of(
-    rt: &impl AllocGlobal,
+fn status_of<R: AllocGlobal + Threads + Wait + Sync>(
+    rt: &R,
     rate: &str,
     text: MemText<'_>,
     failing_opens: &[u64],
     out: &mut MemSink<'_>,
     err: &mut MemSink<'_>,
 ) -> Result<u8, Fail> {
-    let alloc = rt.alloc();
-    let mut words = Vec::new(alloc);
-    for word in ["one", rate, "9", "32768", "log"] {
-        words.push(Text::of(alloc, word.as_bytes())?)?;
-    }
+    let words = ["one", rate, "9", "32768", "log"];
     let files = [MemFile { name: b"log", text }];
-    let mut shelf = MemShelf::of(&files, failing_opens);
-    Ok(run(rt, alloc, &words, &mut shelf, out, err))
+    run_words(rt, &words, &files, failing_opens, &OpenGate, out, err)
 }
 
 /// Five requests of one key in one moment.
@@ -78,8 +95,8 @@ fn meets_failing_reads(rt: HostRuntime) -> Result<(), Fail> {
 }
 
 /// Where standard error refuses these writes, a status with a line becomes 5, and it has taken this.
-fn refuse(
-    rt: &(impl AllocGlobal + Abort),
+fn refuse<R: AllocGlobal + Threads + Wait + Sync + Abort>(
+    rt: &R,
     rate: &str,
     text: MemText<'_>,
     failing_opens: &[u64],

@@ -1,10 +1,10 @@
-ghost use Rattle.std.specs.Prelude.{◌≡◌, ◌≤◌, IfSome, MatchOption, Some, None};
+ghost use Rattle.std.specs.Prelude.{◌≡◌, ◌≤◌, ◌<◌, IfSome, MatchOption, Some, None};
 ghost use Rattle.req_zone.specs.Amount.{IsRate, greatest_burst};
-ghost use Rattle.zonereplay.specs.Words.{rate_of, burst_of, unit_of, size_of, one_of, check_of, plain_of, image_of, made_of};
-ghost use Rattle.zonereplay.specs.Words.Command.{one, check, plain, image, made};
+ghost use Rattle.zonereplay.specs.Words.{rate_of, burst_of, unit_of, size_of, workers_of, one_of, check_of, plain_of, image_of, made_of, replay_job, replay_of};
+ghost use Rattle.zonereplay.specs.Words.Command.{one, check, plain, image, made, replay};
 ghost use Rattle.zonereplay.specs.Jobs.{asked};
 
-use crate::job::Job;
+use crate::job::{Job, ReplayJob};
 use zone_outside::{Text, read_number};
 
 /// A rate `Nr/s` or `Nr/m` with N from 1 to 1,000,000, in thousandths of a request per second. None for any
@@ -115,4 +115,48 @@ pub(crate) fn read_made(words: &[Text]) -> Option<(u64, u32)>
     let seed = read_number(seed.bytes(), u64::MAX)?;
     let lines = read_number(lines.bytes(), 131_072)?;
     Some((seed, lines as u32))
+}
+
+/// A number of workers, from 1 to 16. None for any other word.
+fn read_workers(word: &[u8]) -> Option<u32>
+    ensures value { result ≡ workers_of word.now }
+    ensures limits { IfSome result (λ workers. (0 < workers) × (workers ≤ 16)) }
+{
+    let workers = read_number(word, 16)?;
+    (workers >= 1).then_some(workers as u32)
+}
+
+/// The job of so many workers, where their number can be read.
+fn read_job<'a>(
+    config: &'a Text,
+    log: &'a Text,
+    workers: &Text,
+    words: bool,
+) -> Option<(&'a Text, &'a Text, ReplayJob)>
+    ensures { MatchOption result (replay_job config.now log.now (workers_of workers.now) words ≡ None) (λ found. replay_job config.now log.now (workers_of workers.now) words ≡ Some (replay found.0.now found.1.now found.2.workers found.2.words)) }
+{
+    let workers = read_workers(workers.bytes())?;
+    Some((config, log, ReplayJob { workers, words }))
+}
+
+/// What the words `replay CONFIG LOG WORKERS` ask for, or the same with a further word `words`: the names of the configuration
+/// and of the log, the workers, and whether the words of each zone are told.
+pub(crate) fn read_replay(words: &[Text]) -> Option<(&Text, &Text, ReplayJob)>
+    ensures { MatchOption result (replay_of words.now ≡ None) (λ found. replay_of words.now ≡ Some (replay found.0.now found.1.now found.2.workers found.2.words)) }
+{
+    match words {
+        [command, config, log, workers] => {
+            if command.bytes() != b"replay".as_slice() {
+                return None;
+            }
+            read_job(config, log, workers, false)
+        }
+        [command, config, log, workers, more] => {
+            if command.bytes() != b"replay".as_slice() || more.bytes() != b"words".as_slice() {
+                return None;
+            }
+            read_job(config, log, workers, true)
+        }
+        _ => None,
+    }
 }

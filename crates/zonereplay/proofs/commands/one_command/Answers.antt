@@ -1,6 +1,6 @@
 use Rattle.std.proofs.Common.{Option, ap, sym, subst}
 use Rattle.zonereplay.specs.Jobs.{asked}
-use Rattle.zonereplay.specs.Words.{Command, first_form, check_of, plain_of, image_of, made_of}
+use Rattle.zonereplay.specs.Words.{Command, first_form, check_of, plain_of, image_of, made_of, replay_of}
 use Rattle.zonereplay.specs.Plan.{Plan, plan_for, one_plan}
 use Rattle.zonereplay.specs.Devices.{Devices}
 use Rattle.zonereplay.specs.Answers.{Does}
@@ -22,4 +22,4 @@ returns g c =
     let plan = one_plan (asked c.in-Some.job) c.in-Some.log.now in
     let done = command_does plan before after c.prepare_one-prepared.result c.conclude.result c.prepare_one-prepared.ensures c.conclude.ensures in
     let numbered = subst (Does plan before after) (sym c.code.ensures) done in
-    subst (λ (p : Plan). Does p before after c.code.result) (sym (ap (λ (o : Option Command). plan_for (first_form o (first_form (check_of c.args.words.now) (first_form (plain_of c.args.words.now) (first_form (image_of c.args.words.now) (made_of c.args.words.now)))))) c.in-Some.ensures)) numbered
+    subst (λ (p : Plan). Does p before after c.code.result) (sym (ap (λ (o : Option Command). plan_for (first_form o (first_form (check_of c.args.words.now) (first_form (plain_of c.args.words.now) (first_form (image_of c.args.words.now) (first_form (made_of c.args.words.now) (replay_of c.args.words.now))))))) c.in-Some.ensures)) numbered

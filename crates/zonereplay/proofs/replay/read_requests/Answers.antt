@@ -1,23 +1,27 @@
-use Rattle.std.proofs.Common.{List, ℕ, subst}
-use Rattle.replay_log.specs.Requests.{requests_of}
-use Rattle.zonereplay.specs.Plan.{Plan, log_run}
+use Rattle.std.proofs.Common.{List, subst}
+use Rattle.replay_log.specs.declared.line.Line.{Line}
 use Rattle.zonereplay.specs.Replays.{told_of}
+use Rattle.zonereplay.specs.Told.{Shows}
 use Rattle.zonereplay.specs.Devices.{Files}
-use Rattle.zonereplay.specs.Stages.{Prepares}
-use Rattle.zonereplay.proofs.StopLemmas.{read_prepares, read_stopped}
+use Rattle.zonereplay.proofs.LogLemmas.{lines_prepares, lines_too_many, lines_stopped}
 use Rattle.zonereplay.proofs.replay.read_requests.Goals as goal
-
-pub returns-in-Ok : goal.returns-in-Ok
-returns-in-Ok g c =
-    let before : Files = record { contents = g.F.Shelf.contents c.args.files.now; faults = g.F.Shelf.faults c.args.files.now } in
-    let after : Files = record { contents = g.F.Shelf.contents c.read_text.new.files; faults = g.F.Shelf.faults c.read_text.new.files } in
-    let next : List ℕ → Plan = λ text. log_run (told_of c.args.wanted c.args.config.now) (requests_of c.args.config.now.locations text) in
-    let went = subst (λ (text : List ℕ). Prepares (next text) after after c.run_requests.result) c.deref.ensures.value (c.run_requests.ensures after) in
-    read_prepares c.args.log.now before after after next c.in-Ok.text c.run_requests.result c.in-Ok.ensures went
 
 pub returns-in-Err : goal.returns-in-Err
 returns-in-Err g c =
     let before : Files = record { contents = g.F.Shelf.contents c.args.files.now; faults = g.F.Shelf.faults c.args.files.now } in
-    let after : Files = record { contents = g.F.Shelf.contents c.read_text.new.files; faults = g.F.Shelf.faults c.read_text.new.files } in
-    let next : List ℕ → Plan = λ text. log_run (told_of c.args.wanted c.args.config.now) (requests_of c.args.config.now.locations text) in
-    read_stopped c.args.log.now before after next c.in-Err.stop c.in-Err.ensures
+    let after : Files = record { contents = g.F.Shelf.contents c.read_lines.new.files; faults = g.F.Shelf.faults c.read_lines.new.files } in
+    lines_stopped c.args.log.now c.args.config.now before after (told_of c.args.wanted c.args.config.now) c.in-Err.stop c.in-Err.ensures
+
+pub returns-in-Ok-write_wanted : goal.returns-in-Ok-write_wanted
+returns-in-Ok-write_wanted g c =
+    let before : Files = record { contents = g.F.Shelf.contents c.args.files.now; faults = g.F.Shelf.faults c.args.files.now } in
+    let after : Files = record { contents = g.F.Shelf.contents c.read_lines.new.files; faults = g.F.Shelf.faults c.read_lines.new.files } in
+    let told = told_of c.args.wanted c.args.config.now in
+    let shown = subst (λ (lines : List Line). Shows (told lines) c.in-Ok-write_wanted.written) c.deref.ensures.value c.in-Ok-write_wanted.ensures in
+    lines_prepares c.args.log.now c.args.config.now before after told c.in-Ok.lines c.in-Ok-write_wanted.written c.in-Ok.ensures shown
+
+pub returns : goal.returns
+returns g c =
+    let before : Files = record { contents = g.F.Shelf.contents c.args.files.now; faults = g.F.Shelf.faults c.args.files.now } in
+    let after : Files = record { contents = g.F.Shelf.contents c.read_lines.new.files; faults = g.F.Shelf.faults c.read_lines.new.files } in
+    lines_too_many c.args.log.now c.args.config.now before after (told_of c.args.wanted c.args.config.now) c.in-Ok.lines c.in-Ok.ensures

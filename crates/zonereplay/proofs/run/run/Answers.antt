@@ -20,4 +20,5 @@ returns-clause-does g c =
     let plain = not_there c.read_plain.result _ _ c.read_plain.ensures (sym c.is_some-3.ensures ∙ c.if-is_some-3.false) in
     let image = not_there c.read_image.result _ _ c.read_image.ensures (sym c.is_some-4.ensures ∙ c.if-is_some-4.false) in
     let made = not_there c.read_made.result _ _ c.read_made.ensures.asked (sym c.is_some-5.ensures ∙ c.if-is_some-5.false) in
-    subst (Does plan before after) (sym c.code.ensures) (usage_does plan before after c.tell_stop.result (ap plan_for (no_form c.args.words.now one check plain image made)) refl refl c.tell_stop.ensures)
+    let replay = not_there c.read_replay.result _ _ c.read_replay.ensures (sym c.is_some-6.ensures ∙ c.if-is_some-6.false) in
+    subst (Does plan before after) (sym c.code.ensures) (usage_does plan before after c.tell_stop.result (ap plan_for (no_form c.args.words.now one check plain image made replay)) refl refl c.tell_stop.ensures)

@@ -1,0 +1,57 @@
+use Rattle.std.proofs.Common.{ℕ, ◌≡◌, ◌++◌, ◌∙◌, Bool, List, map, ap, subst, sym}
+use Rattle.std.specs.Prelude.{slice_get}
+use Rattle.std.specs.List.{flat_map}
+use Rattle.zone_config.specs.declared.data.ZoneSpec.{ZoneSpec}
+use Rattle.replay_share.specs.Asked.{IsAt}
+use Rattle.replay_workers.specs.declared.history.ZoneHistory.{ZoneHistory}
+use Rattle.replay_workers.specs.Columns.{IsRunOf, log_of}
+use Rattle.replay_text.specs.ReplayText.{decided_line, zones_text}
+use Rattle.replay_text.specs.Images.{AreImages, zones_text_with_words}
+use Rattle.zonereplay.specs.Plan.{workers_told}
+use Rattle.zonereplay.specs.Told.{Shows}
+use Rattle.zonereplay.proofs.WorkerLemmas.{shows_histories, shows_all_words}
+use Rattle.zonereplay.proofs.workers.write_replay.Goals as goal
+
+-- each zone has run its history, among the same zones and histories
+ran_among : (workers : ℕ) (zones given_zones : List ZoneSpec) (left given_left : List ZoneHistory) → given_zones ≡ zones → given_left ≡ left → ((z : ℕ) → IsAt (IsRunOf workers) (slice_get zones z) (slice_get left z))
+    → (z : ℕ) → IsAt (IsRunOf workers) (slice_get given_zones z) (slice_get given_left z)
+ran_among workers zones given_zones left given_left zones_are left_is ran z =
+    subst (λ (zs : List ZoneSpec). IsAt (IsRunOf workers) (slice_get zs z) (slice_get given_left z)) (sym zones_are) (subst (λ (hs : List ZoneHistory). IsAt (IsRunOf workers) (slice_get zones z) (slice_get hs z)) (sym left_is) (ran z))
+
+pub push_histories_with_words-requires : goal.push_histories_with_words-requires
+push_histories_with_words-requires g c =
+    (c.args.job.workers, ran_among c.args.job.workers c.args.config.now.zones c.as_slice.result.now c.in_ok-decisions.left.items c.deref-then-job.result.now c.as_slice.ensures c.deref-then-job.ensures.value c.in_ok-decisions.ensures.ran)
+
+pub push_histories-requires : goal.push_histories-requires
+push_histories-requires g c =
+    (c.args.job.workers, ran_among c.args.job.workers c.args.config.now.zones c.as_slice-2.result.now c.in_ok-decisions.left.items c.deref-2.result.now c.as_slice-2.ensures c.deref-2.ensures.value c.in_ok-decisions.ensures.ran)
+
+pub returns-then-job : goal.returns-then-job
+returns-then-job g c =
+    let config = c.args.config.now in
+    let workers = c.args.job.workers in
+    let text = c.from_vec.result in
+    let first = c.push_decisions.new.text.items in
+    let left = c.in_ok-decisions.left.items in
+    let behind = c.in_ok-push_histories_with_words.ensures in
+    let images = behind.0 in
+    let given_zones = c.as_slice.result.now in
+    let given_left = c.deref-then-job.result.now in
+    let laid = subst (λ (zs : List ZoneSpec). AreImages zs (map log_of left) images) c.as_slice.ensures (subst (λ (hs : List ZoneHistory). AreImages given_zones (map log_of hs) images) c.deref-then-job.ensures.value behind.1) in
+    let text_is : text ≡ first ++ zones_text_with_words config.zones (map log_of left) images = c.from_vec.ensures ∙ behind.2 ∙ ap (λ (zs : List ZoneSpec). first ++ zones_text_with_words zs (map log_of given_left) images) c.as_slice.ensures ∙ ap (λ (hs : List ZoneHistory). first ++ zones_text_with_words config.zones (map log_of hs) images) c.deref-then-job.ensures.value in
+    let shown = shows_all_words config workers c.args.lines.now c.in_ok-decisions.decisions.items left first text c.in_ok-decisions.ensures
+    (λ decided lines_are decisions_are. c.in_ok-push_decisions.ensures decided lines_are (decisions_are ∙ sym c.deref.ensures.value) ∙ ap (λ (t : List ℕ). t ++ flat_map (decided_line config) decided) c.new-text.ensures.items) images laid text_is in
+    subst (λ (b : Bool). Shows (workers_told workers b config c.args.lines.now) text) (sym c.if-job.true) shown
+
+pub returns : goal.returns
+returns g c =
+    let config = c.args.config.now in
+    let workers = c.args.job.workers in
+    let text = c.from_vec-2.result in
+    let first = c.push_decisions.new.text.items in
+    let left = c.in_ok-decisions.left.items in
+    let behind = c.in_ok-push_histories.ensures in
+    let text_is : text ≡ first ++ zones_text config.zones (map log_of left) = c.from_vec-2.ensures ∙ behind ∙ ap (λ (zs : List ZoneSpec). first ++ zones_text zs (map log_of c.deref-2.result.now)) c.as_slice-2.ensures ∙ ap (λ (hs : List ZoneHistory). first ++ zones_text config.zones (map log_of hs)) c.deref-2.ensures.value in
+    let shown = shows_histories config workers c.args.lines.now c.in_ok-decisions.decisions.items left first text c.in_ok-decisions.ensures
+    (λ decided lines_are decisions_are. c.in_ok-push_decisions.ensures decided lines_are (decisions_are ∙ sym c.deref.ensures.value) ∙ ap (λ (t : List ℕ). t ++ flat_map (decided_line config) decided) c.new-text.ensures.items) text_is in
+    subst (λ (b : Bool). Shows (workers_told workers b config c.args.lines.now) text) (sym c.if-job.false) shown
