@@ -3,7 +3,7 @@ use crate::tests::run_words;
 use replay_workers::{Gate, OpenGate};
 use std::process::Abort;
 use std::sync::Wait;
-use std::sync::atomic::{AtomicBool, Ordering};
+use std::sync::atomic::{AtomicBool, AtomicU64, Ordering};
 use std::test::Fail;
 use std::thread::Threads;
 use zone_outside::{MemFile, MemSink, MemText};
@@ -103,23 +103,33 @@ fn two_workers_meet(rt: HostRuntime) -> Result<(), Fail> {
     Ok(())
 }
 
-/// A gate at which the other worker waits, before its first call, until this one has made its first.
+/// A gate at which the other worker waits, before its first call, until this one has made its first. This one then waits
+/// until the other has made its own, so that a gate which is told of a call before it is made is found out.
 #[derive(Drop)]
 struct InTurn {
     leader: u32,
-    went: AtomicBool,
+    leads: Side,
+    follows: Side,
 }
 
 impl Gate for InTurn {
     fn before<R: Wait>(&self, _rt: &R, worker: u32, call: u32) {
         if worker != self.leader && call == 1 {
-            let _ = is_found(&self.went);
+            self.follows
+                .met
+                .store(is_found(&self.leads.came), Ordering::SeqCst);
         }
     }
 
     fn after<R: Wait>(&self, _rt: &R, worker: u32, call: u32) {
+        if worker != self.leader && call == 1 {
+            self.follows.came.store(true, Ordering::SeqCst);
+        }
         if worker == self.leader && call == 1 {
-            self.went.store(true, Ordering::SeqCst);
+            self.leads.came.store(true, Ordering::SeqCst);
+            self.leads
+                .met
+                .store(is_found(&self.follows.came), Ordering::SeqCst);
         }
     }
 }
@@ -159,11 +169,57 @@ fn two_workers_go_in_turn(rt: HostRuntime) -> Result<(), Fail> {
     for (leader, text) in IN_TURN {
         let gate = InTurn {
             leader,
-            went: AtomicBool::new(false),
+            leads: absent(),
+            follows: absent(),
         };
         let out = replayed(&rt, CONFIG, LOG, "2", &gate)?;
+        assert!(rt; gate.follows.met.load(Ordering::SeqCst));
+        assert!(rt; gate.leads.met.load(Ordering::SeqCst));
         assert_eq!(rt; out.bytes(), text, "worker {leader} goes first");
     }
+    Ok(())
+}
+
+/// A gate that counts what it is told, and finds out what doesn't come in its turn: before the first call, after it, before the
+/// second, and so on, always of worker 0.
+#[derive(Drop)]
+struct Counting {
+    told: AtomicU64,
+    wrong: AtomicBool,
+}
+
+impl Counting {
+    /// It is told something that is due where it has been told so many things before.
+    fn tell(&self, worker: u32, due: u64) {
+        let told = self.told.fetch_add(1, Ordering::SeqCst);
+        if worker != 0 || told != due {
+            self.wrong.store(true, Ordering::SeqCst);
+        }
+    }
+}
+
+impl Gate for Counting {
+    fn before<R: Wait>(&self, _rt: &R, worker: u32, call: u32) {
+        self.tell(worker, (2 * u64::from(call)).wrapping_sub(2));
+    }
+
+    fn after<R: Wait>(&self, _rt: &R, worker: u32, call: u32) {
+        self.tell(worker, (2 * u64::from(call)).wrapping_sub(1));
+    }
+}
+
+/// The gate is told of each call of a worker to any zone, before it and after it, with the call's number from 1 on.
+#[test]
+fn the_gate_is_told_of_each_call(rt: HostRuntime) -> Result<(), Fail> {
+    let config =
+        b"http{limit_req_zone $binary_remote_addr zone=r:32k rate=1r/s;limit_conn_zone $binary_remote_addr zone=c:32k;server{limit_req zone=r;limit_conn c 1;}}";
+    let gate = Counting {
+        told: AtomicU64::new(0),
+        wrong: AtomicBool::new(false),
+    };
+    replayed(&rt, config, b"0 0 open - 10.0.0.1\n1 0 done\n", "1", &gate)?;
+    assert!(rt; !gate.wrong.load(Ordering::SeqCst));
+    assert_eq!(rt; gate.told.load(Ordering::SeqCst), 6);
     Ok(())
 }
 
