@@ -34,7 +34,7 @@ loop-line-preserved g c = λ start room served fits.
     let had = c.loop-line.invariant start room served fits in
     let S : g.row.A.Denot → List Exchange → Type 0 = λ z. g.A.Answers.serves start z c.args.config.now.zones room in
     elim c.if-line-workers.branch [
-      then-line-workers+in_ok-decide+in_ok-push w ↦
+      | then-line-workers+in_ok-decide+in_ok-push w ↦
           let mine = goes-here c.args.workers c.args.worker c.line-item.result w.if-line-workers.true in
           let all = mine-lines c.args.workers c.args.worker (IsLineOf (length c.args.config.now.locations)) lines i c.requires.lines in
           let room_left = mine-fits c.args.workers c.args.worker lines i room c.line-item.result c.loop-line-test.true c.line-item.is mine fits in
@@ -42,7 +42,7 @@ loop-line-preserved g c = λ start room served fits.
           decided_as S c.args.config.now w.decide.new.zones c.if-line-workers.zones w.decide.new.script c.if-line-workers.script
           (lines_of c.args.workers c.args.worker (take i lines) ++ c.line-item.result ∷ []) (lines_of c.args.workers c.args.worker (take (i + 1) lines))
           (c.loop-line.decisions.items ++ w.in_ok-decide.field-0 ∷ []) c.if-line-workers.decisions.items w.zones-is w.script-is (mine-more c.args.workers c.args.worker lines i c.line-item.result c.loop-line-test.true c.line-item.is mine) (ap (λ d. d.items) w.decisions-is ∙ w.in_ok-push.ensures.items) now
-    | else-line-workers w ↦
+      | else-line-workers w ↦
           let other = goes-by c.args.workers c.args.worker c.line-item.result w.if-line-workers.false in
           decided_as S c.args.config.now c.loop-line.zones c.if-line-workers.zones c.loop-line.script c.if-line-workers.script
           (lines_of c.args.workers c.args.worker (take i lines)) (lines_of c.args.workers c.args.worker (take (i + 1) lines))
