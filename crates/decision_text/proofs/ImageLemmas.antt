@@ -55,7 +55,7 @@ lacks-decimal s n low small =
 
 -- ---- a word in hexadecimal digits
 
-bytes-word : (v : ℕ) → IsBytes (to_be_bytes w64 v)
+pub bytes-word : (v : ℕ) → IsBytes (to_be_bytes w64 v)
 bytes-word v zero = omega arith
 bytes-word v (suc zero) = omega arith
 bytes-word v (suc (suc zero)) = omega arith

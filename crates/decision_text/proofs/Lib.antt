@@ -1,3 +1,5 @@
 pub mod TextLemmas
 pub mod CodingLemmas
 pub mod ImageLemmas
+mod Reading
+mod LineLemmas
