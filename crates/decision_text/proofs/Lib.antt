@@ -3,3 +3,4 @@ pub mod CodingLemmas
 pub mod ImageLemmas
 mod Reading
 mod LineLemmas
+pub mod LinesApart

@@ -13,6 +13,10 @@ use Rattle.peer_zone.specs.declared.calls.PeerCall.{PeerCall}
 use Rattle.peer_zone.specs.declared.calls.PeerCall.TheVariants.{Choose, Free}
 use Rattle.peer_zone.specs.declared.calls.PeerReply.{PeerReply}
 use Rattle.peer_zone.specs.declared.calls.PeerReply.TheVariants as peer
+use Rattle.zone_config.specs.declared.data.Config.{Config}
+use Rattle.replay_log.specs.declared.line.Line.{Line}
+use Rattle.request_script.specs.declared.decision.Decision.{Decision}
+use Rattle.decision_text.specs.DecisionText.{decision_text}
 use Rattle.decision_text.specs.HistoryText.{entry_line, req_call_words, req_reply_words, conn_call_words, conn_reply_words, peer_call_words, peer_reply_words}
 
 -- ---- what the program's types hold: numbers of 64 bits, and keys of bytes
@@ -88,3 +92,10 @@ ConnLineTellsItsCall = LineTellsItsCall HasConnNumbers AnswersConnNumbers conn_c
 
 abbrev pub PeerLineTellsItsCall : Type 0
 PeerLineTellsItsCall = LineTellsItsCall HasPeerNumbers AnswersPeerNumbers peer_call_words peer_reply_words
+
+-- ---- decisions
+
+-- Two equal texts that begin with the lines of two decisions have the same line there, and go on alike.
+abbrev pub DecisionLineIsOneLine : Type 0
+DecisionLineIsOneLine = (config : Config) (line other : Line) (decision another : Decision) (first second : List ℕ) → decision_text config line decision ++ first ≡ decision_text config other another ++ second
+    → (decision_text config line decision ≡ decision_text config other another) × (first ≡ second)

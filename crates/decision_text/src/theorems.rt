@@ -3,7 +3,7 @@ ghost use Rattle.std.specs.List.{All};
 ghost use Rattle.zone_outside.specs.Coded.{decoded};
 ghost use Rattle.decision_text.specs.Coding.{coded};
 ghost use Rattle.decision_text.specs.TailText.{AreWords, BeginsNoWord, image_text};
-ghost use Rattle.decision_text.specs.Telling.{ReqLineTellsItsCall, ConnLineTellsItsCall, PeerLineTellsItsCall};
+ghost use Rattle.decision_text.specs.Telling.{DecisionLineIsOneLine, ReqLineTellsItsCall, ConnLineTellsItsCall, PeerLineTellsItsCall};
 
 /// A name that was printed reads back as coded text, as a theorem. Nothing runs.
 pub fn coded_reads_back()
@@ -32,4 +32,11 @@ pub fn line_tells_its_call()
     ensures req { ReqLineTellsItsCall }
     ensures conn { ConnLineTellsItsCall }
     ensures peer { PeerLineTellsItsCall }
+{}
+
+/// The line of a decision ends where the next line begins, as a theorem: two equal texts that begin with the lines of two
+/// decisions have the same line there, and the same text behind it. The decisions themselves may differ: servers of one
+/// address print alike, and so do the zone `-` and none. Nothing runs.
+pub fn decision_line_is_one_line()
+    ensures { DecisionLineIsOneLine }
 {}
