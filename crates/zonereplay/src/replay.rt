@@ -15,13 +15,10 @@ use crate::stop::{Refusal, Stop};
 use replay_log::{Line, LogFault, read_log};
 use replay_share::{Journals, OpeningFault, replay_share};
 use replay_text::{push_decisions, push_zone_words, push_zones};
-use request_script::Decision;
+use request_script::{CALLS_A_LINE, Decision};
 use std::alloc::Global;
 use zone_config::Config;
 use zone_outside::{NoMemory, Shelf, Text};
-
-/// The calls that a line makes to one zone at most.
-const CALLS_A_LINE: u32 = 3;
 
 /// One worker, whose number is 0, has all lines.
 const ONE_WORKER: u32 = 1;

@@ -2,9 +2,9 @@ use Rattle.std.proofs.Common.{ℕ, ◌≡◌, ◌++◌, ◌∙◌, Bool, List, m
 use Rattle.std.specs.Prelude.{slice_get}
 use Rattle.std.specs.List.{flat_map}
 use Rattle.zone_config.specs.declared.data.ZoneSpec.{ZoneSpec}
-use Rattle.replay_share.specs.Asked.{IsAt}
+use Rattle.replay_share.specs.Logs.{IsAt}
 use Rattle.replay_workers.specs.declared.history.ZoneHistory.{ZoneHistory}
-use Rattle.replay_workers.specs.Columns.{IsRunOf, log_of}
+use Rattle.replay_workers.specs.Columns.{IsRunOf, log_left}
 use Rattle.replay_text.specs.ReplayText.{decided_line, zones_text}
 use Rattle.replay_text.specs.Images.{AreImages, zones_text_with_words}
 use Rattle.zonereplay.specs.Plan.{workers_told}
@@ -37,8 +37,8 @@ returns-then-job g c =
     let images = behind.0 in
     let given_zones = c.as_slice.result.now in
     let given_left = c.deref-then-job.result.now in
-    let laid = subst (λ (zs : List ZoneSpec). AreImages zs (map log_of left) images) c.as_slice.ensures (subst (λ (hs : List ZoneHistory). AreImages given_zones (map log_of hs) images) c.deref-then-job.ensures.value behind.1) in
-    let text_is : text ≡ first ++ zones_text_with_words config.zones (map log_of left) images = c.from_vec.ensures ∙ behind.2 ∙ ap (λ (zs : List ZoneSpec). first ++ zones_text_with_words zs (map log_of given_left) images) c.as_slice.ensures ∙ ap (λ (hs : List ZoneHistory). first ++ zones_text_with_words config.zones (map log_of hs) images) c.deref-then-job.ensures.value in
+    let laid = subst (λ (zs : List ZoneSpec). AreImages zs (map log_left left) images) c.as_slice.ensures (subst (λ (hs : List ZoneHistory). AreImages given_zones (map log_left hs) images) c.deref-then-job.ensures.value behind.1) in
+    let text_is : text ≡ first ++ zones_text_with_words config.zones (map log_left left) images = c.from_vec.ensures ∙ behind.2 ∙ ap (λ (zs : List ZoneSpec). first ++ zones_text_with_words zs (map log_left given_left) images) c.as_slice.ensures ∙ ap (λ (hs : List ZoneHistory). first ++ zones_text_with_words config.zones (map log_left hs) images) c.deref-then-job.ensures.value in
     let shown = shows_all_words config workers c.args.lines.now c.in_ok-decisions.decisions.items left first text c.in_ok-decisions.ensures
     (λ decided lines_are decisions_are. c.in_ok-push_decisions.ensures decided lines_are (decisions_are ∙ sym c.deref.ensures.value) ∙ ap (λ (t : List ℕ). t ++ flat_map (decided_line config) decided) c.new-text.ensures.items) images laid text_is in
     subst (λ (b : Bool). Shows (workers_told workers b config c.args.lines.now) text) (sym c.if-job.true) shown
@@ -51,7 +51,7 @@ returns g c =
     let first = c.push_decisions.new.text.items in
     let left = c.in_ok-decisions.left.items in
     let behind = c.in_ok-push_histories.ensures in
-    let text_is : text ≡ first ++ zones_text config.zones (map log_of left) = c.from_vec-2.ensures ∙ behind ∙ ap (λ (zs : List ZoneSpec). first ++ zones_text zs (map log_of c.deref-2.result.now)) c.as_slice-2.ensures ∙ ap (λ (hs : List ZoneHistory). first ++ zones_text config.zones (map log_of hs)) c.deref-2.ensures.value in
+    let text_is : text ≡ first ++ zones_text config.zones (map log_left left) = c.from_vec-2.ensures ∙ behind ∙ ap (λ (zs : List ZoneSpec). first ++ zones_text zs (map log_left c.deref-2.result.now)) c.as_slice-2.ensures ∙ ap (λ (hs : List ZoneHistory). first ++ zones_text config.zones (map log_left hs)) c.deref-2.ensures.value in
     let shown = shows_histories config workers c.args.lines.now c.in_ok-decisions.decisions.items left first text c.in_ok-decisions.ensures
     (λ decided lines_are decisions_are. c.in_ok-push_decisions.ensures decided lines_are (decisions_are ∙ sym c.deref.ensures.value) ∙ ap (λ (t : List ℕ). t ++ flat_map (decided_line config) decided) c.new-text.ensures.items) text_is in
     subst (λ (b : Bool). Shows (workers_told workers b config c.args.lines.now) text) (sym c.if-job.false) shown
