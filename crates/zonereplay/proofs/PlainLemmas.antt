@@ -1,5 +1,5 @@
 -- The texts of a replay on one worker.
-use Rattle.std.proofs.Common.{ℕ, ◌≡◌, List, ◌++◌, map, Result, ap, subst, sym, ◌∙◌}
+use Rattle.std.proofs.Common.{ℕ, ◌≡◌, List, ◌++◌, map, Result, ap, subst, ◌∙◌}
 use Rattle.std.specs.Prelude.{slice_get}
 use Rattle.std.specs.List.{flat_map}
 use Rattle.zone_config.specs.declared.data.Config.{Config}

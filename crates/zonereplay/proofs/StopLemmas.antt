@@ -16,7 +16,6 @@ use Rattle.zonereplay.specs.Plan.Plan.{refuses, reads}
 use Rattle.zonereplay.specs.Plan.End.{refused, written}
 use Rattle.zonereplay.specs.Devices.{Files, FilesCalm}
 use Rattle.zone_watch.specs.Watched.{Watched}
-use Rattle.zonereplay.specs.Told.{Told}
 use Rattle.zonereplay.specs.Answers.{Stops, MayWatch}
 use Rattle.zonereplay.specs.Stages.{FilesKept, IsTextOf, ReadsText, IsUsable, OpensConfig, Prints, StopLeaves, Prepares}
 
