@@ -6,7 +6,7 @@ use Rattle.replay_log.specs.declared.line.Line.{Line}
 use Rattle.request_script.specs.declared.decision.Decision.{Decision}
 use Rattle.replay_share.specs.Replay.{Decided, line_of, decision_of}
 use Rattle.replay_workers.specs.declared.history.ZoneHistory.{ZoneHistory}
-use Rattle.replay_workers.specs.Columns.{log_of}
+use Rattle.replay_workers.specs.Columns.{log_left}
 use Rattle.replay_workers.specs.Zones.{HasReplayedAll}
 use Rattle.replay_text.specs.ReplayText.{decided_line, zones_text}
 use Rattle.replay_text.specs.Images.{AreImages, zones_text_with_words}
@@ -25,13 +25,13 @@ module _ (config : Config) (workers : ℕ) (lines : List Line) (decisions given 
   told_own = subst (λ (ds : List Decision). Tells (notices_of lines ds) before after base written) given_is told_it
 
   -- the decisions and the histories
-  pub writes_histories : (words : Bool) → words ≡ false → base ≡ first ++ zones_text config.zones (map log_of left) → Writes (workers_told workers words config lines) before after written
+  pub writes_histories : (words : Bool) → words ≡ false → base ≡ first ++ zones_text config.zones (map log_left left) → Writes (workers_told workers words config lines) before after written
   writes_histories words without base_is = subst (λ (b : Bool). Writes (workers_told workers b config lines) before after written) (sym without)
-      (writes_replay config workers lines h.decided (map log_of left) decisions base before after written h.is_replay h.decisions_are
-      (base_is ∙ ap (λ (t : List ℕ). t ++ zones_text config.zones (map log_of left)) (first_is h.decided h.is_replay.lines_are h.decisions_are)) told_own)
+      (writes_replay config workers lines h.decided (map log_left left) decisions base before after written h.is_replay h.decisions_are
+      (base_is ∙ ap (λ (t : List ℕ). t ++ zones_text config.zones (map log_left left)) (first_is h.decided h.is_replay.lines_are h.decisions_are)) told_own)
 
   -- and the words of each zone
-  pub writes_all_words : (words : Bool) → words ≡ true → (images : List (List ℕ)) → AreImages config.zones (map log_of left) images → base ≡ first ++ zones_text_with_words config.zones (map log_of left) images → Writes (workers_told workers words config lines) before after written
+  pub writes_all_words : (words : Bool) → words ≡ true → (images : List (List ℕ)) → AreImages config.zones (map log_left left) images → base ≡ first ++ zones_text_with_words config.zones (map log_left left) images → Writes (workers_told workers words config lines) before after written
   writes_all_words words with_them images laid base_is = subst (λ (b : Bool). Writes (workers_told workers b config lines) before after written) (sym with_them)
-      (writes_replay_with_words config workers lines h.decided (map log_of left) decisions base before after written h.is_replay h.decisions_are images laid
-      (base_is ∙ ap (λ (t : List ℕ). t ++ zones_text_with_words config.zones (map log_of left) images) (first_is h.decided h.is_replay.lines_are h.decisions_are)) told_own)
+      (writes_replay_with_words config workers lines h.decided (map log_left left) decisions base before after written h.is_replay h.decisions_are images laid
+      (base_is ∙ ap (λ (t : List ℕ). t ++ zones_text_with_words config.zones (map log_left left) images) (first_is h.decided h.is_replay.lines_are h.decisions_are)) told_own)
