@@ -8,4 +8,3 @@ pub mod Keeping
 pub mod Answering
 pub mod Stepping
 pub mod Beginning
-pub mod Permitted

@@ -15,6 +15,3 @@ pub use calls::{ConnCall, ConnReply, ConnSpec};
 pub use errors::OpenFault;
 pub use state::{ConnEntry, ConnState};
 pub use zone::ConnZone;
-
-#[cfg(test)]
-mod tests;

@@ -11,4 +11,3 @@ pub mod ZoneLemmas
 pub mod FreshLemmas
 pub mod GrantLemmas
 pub mod RootLemmas
-pub mod OpenedLemmas

@@ -69,6 +69,15 @@ abbrev pub ReturnRow : Type 0
 ReturnRow = (answers_of weights_1_2_3 one_fails ≡ Peer 2 ∷ Peer 1 ∷ Peer 0 ∷ Peer 2 ∷ Peer 1 ∷ Peer 2 ∷ Freed ∷ Peer 1 ∷ Peer 0 ∷ Peer 1 ∷ [])
     × (answers_of (after_all weights_1_2_3 one_fails) (replicate 4 (Choose 0 0 11)) ≡ Peer 1 ∷ Peer 0 ∷ Peer 1 ∷ Peer 2 ∷ [])
 
+-- seventy choices: four cycles of all three; then the third server fails, and the others share four cycles of theirs up to the last moment of its timeout; at 11 it is back, with as many choices as it takes to be chosen; a good end then forgets its failure, and five cycles of all three follow
+abbrev pub seventy_calls : List PeerCall
+seventy_calls = replicate 24 first_try ++ Free 0 2 true 0 ∷ replicate 12 (Choose 0 0 10) ++ replicate 4 (Choose 0 0 11) ++ Free 0 2 false 11 ∷ replicate 30 (Choose 0 0 11)
+
+-- afterwards all are as near to their turn as at first
+abbrev pub SeventyRow : Type 0
+SeventyRow = (answers_of weights_1_2_3 seventy_calls ≡ repeated 4 (Peer 2 ∷ Peer 1 ∷ Peer 0 ∷ Peer 2 ∷ Peer 1 ∷ Peer 2 ∷ []) ++ Freed ∷ repeated 4 (Peer 1 ∷ Peer 0 ∷ Peer 1 ∷ []) ++ (Peer 1 ∷ Peer 0 ∷ Peer 1 ∷ Peer 2 ∷ []) ++ Freed ∷ repeated 5 (Peer 2 ∷ Peer 1 ∷ Peer 0 ∷ Peer 2 ∷ Peer 1 ∷ Peer 2 ∷ []))
+    × (currents_of (after_all weights_1_2_3 seventy_calls) ≡ pos 0 ∷ pos 0 ∷ pos 0 ∷ [])
+
 -- a request that has tried the first server, then the second too, then all three
 abbrev pub TriedRow : Type 0
 TriedRow = answers_of weights_5_1_1 (Choose 0 1 0 ∷ Choose 0 3 0 ∷ Choose 0 7 0 ∷ []) ≡ Peer 1 ∷ Peer 2 ∷ NoPeer ∷ []

@@ -22,6 +22,3 @@ pub use errors::OpenFault;
 pub use object::PeerZone;
 pub use state::{PeerRecord, PeerState};
 pub use words::PeerWords;
-
-#[cfg(test)]
-mod tests;

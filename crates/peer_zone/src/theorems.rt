@@ -5,7 +5,7 @@ ghost use Rattle.peer_zone.specs.Object.{Made, answer_of, zone_after, Permits, R
 ghost use Rattle.peer_zone.specs.Opening.{IsOpened};
 ghost use Rattle.peer_zone.specs.Holding.{Holds};
 ghost use Rattle.peer_zone.specs.Laws.{NoPeerLaw, NoChangeLaw, ChosenLaw, NearestLaw, LeastLaw, SumLaw, RefusedLaw, OpenedLaw, BlocksLaw, AnswerLaw, StartLaw};
-ghost use Rattle.peer_zone.specs.Rows.{CycleRow, TenCyclesRow, ReturnRow, TriedRow, BackupRow, CheckedRow, DownRow, SingleRow, LeastRow, TiesRow, FullRow, SmallRow};
+ghost use Rattle.peer_zone.specs.Rows.{CycleRow, TenCyclesRow, ReturnRow, SeventyRow, TriedRow, BackupRow, CheckedRow, DownRow, SingleRow, LeastRow, TiesRow, FullRow, SmallRow};
 
 /// What holds of every choice and of every opening, as theorems over the definitions. Nothing runs.
 pub fn laws()
@@ -35,6 +35,7 @@ pub fn worked_rows()
     ensures cycle { CycleRow }
     ensures ten_cycles { TenCyclesRow }
     ensures comes_back { ReturnRow }
+    ensures seventy { SeventyRow }
     ensures tried { TriedRow }
     ensures backup { BackupRow }
     ensures checked { CheckedRow }

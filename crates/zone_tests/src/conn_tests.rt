@@ -1,106 +1,19 @@
-ghost use Rattle.std.specs.Prelude.{◌≡◌, ◌+◌, ◌<◌, ◌≤◌, ◌^◌, [], length, sum_by, IfOk};
-ghost use Rattle.zone_object.specs.History.{own};
-ghost use Rattle.conn_zone.specs.Object.{given as given_in, back as back_in, given_by, back_by};
+ghost use Rattle.std.specs.Prelude.{◌<◌};
 
+use crate::conn_calls::{made, opened};
 use crate::conn_plain::{PlainConn, PlainEntry};
 use crate::draws::Draws;
 use crate::reader::{Form, find, word};
 use conn_zone::ConnReply::{AtLimit, Closed, NoRoom, Opened};
-use conn_zone::{ConnCall, ConnReply, ConnSpec, ConnZone};
+use conn_zone::{ConnCall, ConnReply, ConnZone};
 use std::alloc::Global;
 use std::process::Abort;
 use std::test::Fail;
 use zone_key::{Key, crc32};
-use zone_object::{Entry, Journal, ZoneView};
-use zone_outside::Text;
+use zone_object::ZoneView;
 
 /// How many calls a zone is asked.
 const CALLS: u32 = 2000;
-
-/// An empty zone of so many bytes, with an empty journal.
-fn opened(rt: &impl Abort, alloc: Global, bytes: u64) -> Result<Journal<ConnZone>, Fail>
-    ensures { IfOk result (λ journal. (journal.room ≡ 2000) × (journal.log ≡ [])) }
-{
-    assert!(rt; bytes <= 67_108_864);
-    let spec = ConnSpec {
-        name: Text::of(alloc, b"c")?,
-        bytes,
-        page_shift: 12,
-    };
-    let zone = ConnZone::open(alloc, spec)?;
-    Ok(Journal::new(alloc, zone, CALLS)?)
-}
-
-/// How many connections on the entry of a block a reply gives.
-fn given(reply: ConnReply, block: u64) -> u64
-    ensures { result ≡ given_by block reply }
-{
-    match reply {
-        Opened { at, count: _ } => u64::from(at == block),
-        AtLimit { .. } => 0,
-        NoRoom => 0,
-        Closed { .. } => 0,
-    }
-}
-
-/// How many a call gives back.
-fn back(call: &ConnCall, block: u64) -> u64
-    ensures { result ≡ back_by block call.now }
-{
-    match call {
-        ConnCall::Open { .. } => 0,
-        ConnCall::Close { at } => u64::from(*at == block),
-    }
-}
-
-/// The connections on the entry of a block that caller 0 was given, and those that it gave back.
-#[derive(Clone, Copy)]
-struct Tally {
-    given: u64,
-    back: u64,
-}
-
-/// Those of these entries.
-fn had(entries: &[Entry<ConnZone>], block: u64) -> Tally
-    requires { length entries.now < 2 ^ 32 }
-    ensures given { result.given ≡ sum_by (given_in block) (own entries.now 0) }
-    ensures back { result.back ≡ sum_by (back_in block) (own entries.now 0) }
-    ensures few { (result.given ≤ length entries.now) × (result.back ≤ length entries.now) }
-{
-    let Some((entry, rest)) = entries.split_first() else {
-        return Tally { given: 0, back: 0 };
-    };
-    let later = had(rest, block);
-    if entry.caller != 0 {
-        return later;
-    }
-    Tally {
-        given: given(entry.reply, block) + later.given,
-        back: back(&entry.call, block) + later.back,
-    }
-}
-
-/// Makes a call for caller 0, which closes only what it opened.
-fn made(rt: &impl Abort, journal: &mut Journal<ConnZone>, call: ConnCall) -> ConnReply
-    requires { length journal.old.log < journal.old.room }
-    ensures room { journal.new.room ≡ journal.old.room }
-    ensures log { length journal.new.log ≡ length journal.old.log + 1 }
-{
-    match call {
-        ConnCall::Open { key, limit } => {
-            let long = key.bytes().len();
-            assert!(rt; long > 0 && long < 256 && limit > 0 && limit < 65_536);
-            journal.call(0, ConnCall::Open { key, limit })
-        }
-        ConnCall::Close { at } => {
-            let entries = journal.entries();
-            assert!(rt; entries.len() < 1_000_000);
-            let had = had(entries, at);
-            assert!(rt; had.back < had.given);
-            journal.call(0, ConnCall::Close { at })
-        }
-    }
-}
 
 /// A call: a connection of a key opens, or one that is open closes, more often the more are open.
 fn drawn(alloc: Global, draws: &mut Draws, held: &mut Vec<u64>, most: u64) -> Result<ConnCall, Fail>
@@ -177,7 +90,7 @@ fn generated(
     before: Seen,
 ) -> Result<Seen, Fail> {
     assert!(rt; most > 0);
-    let mut journal = opened(rt, alloc, bytes)?;
+    let mut journal = opened(rt, alloc, bytes, CALLS)?;
     let mut plain = PlainConn::open(rt, alloc, bytes)?;
     let mut held: Vec<u64> = Vec::new(alloc);
     let mut draws = Draws::new(seed);
@@ -185,7 +98,7 @@ fn generated(
     for n in 0..CALLS {
         let call = drawn(alloc, &mut draws, &mut held, most)?;
         let want = plain.step(rt, alloc, &call)?;
-        let reply = made(rt, &mut journal, call);
+        let reply = made(rt, &mut journal, 0, call);
         assert_eq!(rt; reply, want, "seed {seed} call {n}");
         if let Opened { at, count: _ } = reply {
             held.push(at)?;

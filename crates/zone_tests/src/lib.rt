@@ -2,13 +2,21 @@
 #![tactic(auto)]
 
 #[cfg(test)]
+mod conn_calls;
+#[cfg(test)]
 mod conn_plain;
+#[cfg(test)]
+mod conn_rows;
 #[cfg(test)]
 mod conn_tests;
 #[cfg(test)]
 mod draws;
 #[cfg(test)]
+mod peer_calls;
+#[cfg(test)]
 mod peer_plain;
+#[cfg(test)]
+mod peer_rows;
 #[cfg(test)]
 mod peer_tests;
 #[cfg(test)]

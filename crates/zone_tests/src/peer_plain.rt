@@ -1,47 +1,59 @@
+use crate::peer_calls::Declared;
 use peer_zone::Method;
 use std::process::Abort;
 
 /// A record of the plain list.
 #[derive(Clone, Copy)]
 pub(crate) struct PlainPeer {
-    pub(crate) weight: u64,
-    pub(crate) effective: u64,
-    pub(crate) current: i64,
-    pub(crate) conns: u64,
-    pub(crate) max_conns: u64,
-    pub(crate) fails: u64,
-    pub(crate) max_fails: u64,
-    pub(crate) fail_timeout: u64,
-    pub(crate) checked: u64,
-    pub(crate) accessed: u64,
-    pub(crate) down: bool,
+    weight: u64,
+    effective: u64,
+    current: i64,
+    conns: u64,
+    max_conns: u64,
+    fails: u64,
+    max_fails: u64,
+    fail_timeout: u64,
+    checked: u64,
+    accessed: u64,
+    down: bool,
     /// Whether it takes part in the choice that is made.
     part: bool,
 }
 
 impl PlainPeer {
     /// A server as it is declared.
-    pub(crate) fn new(
-        weight: u64,
-        max_conns: u64,
-        max_fails: u64,
-        fail_timeout: u64,
-        down: bool,
-    ) -> PlainPeer {
+    pub(crate) fn new(declared: &Declared) -> PlainPeer {
         PlainPeer {
-            weight,
-            effective: weight,
+            weight: declared.weight,
+            effective: declared.weight,
             current: 0,
             conns: 0,
-            max_conns,
+            max_conns: declared.max_conns,
             fails: 0,
-            max_fails,
-            fail_timeout,
+            max_fails: declared.max_fails,
+            fail_timeout: declared.fail_timeout,
             checked: 0,
             accessed: 0,
-            down,
+            down: declared.down,
             part: false,
         }
+    }
+
+    /// The words 1 to 11 of its record.
+    pub(crate) fn words(&self) -> [u64; 11] {
+        [
+            self.weight,
+            self.effective,
+            self.current.cast_unsigned(),
+            self.conns,
+            self.max_conns,
+            self.fails,
+            self.max_fails,
+            self.fail_timeout,
+            self.checked,
+            self.accessed,
+            u64::from(self.down),
+        ]
     }
 
     fn is_available(&self, single: bool, tried: bool, now: u64) -> bool {

@@ -1,58 +1,21 @@
-ghost use Rattle.std.specs.Prelude.{◌≡◌, ◌+◌, ◌<◌, ◌≤◌, ◌^◌, [], length, sum_by, IfOk};
-ghost use Rattle.std.specs.List.{All};
-ghost use Rattle.zone_object.specs.History.{own};
-ghost use Rattle.peer_zone.specs.declared.state.PeerState.{PeerState};
-ghost use Rattle.peer_zone.specs.Object.{IsServer, given as given_in, back as back_in, given_by, back_by};
-ghost use Rattle.peer_zone.specs.Opening.{IsOpened};
-ghost use Rattle.peer_zone.specs.Lays.{Lays};
+ghost use Rattle.std.specs.Prelude.{◌≡◌, [], IfOk};
 
 use crate::draws::Draws;
+use crate::peer_calls::{Declared, ONE, made, opened};
 use crate::peer_plain::{PlainPeer, choose, free};
 use crate::reader::word;
 use peer_zone::PeerCall::{Choose, Free};
 use peer_zone::PeerReply::{Freed, NoPeer, Peer};
-use peer_zone::{Method, PeerCall, PeerReply, PeerSpec, PeerZone, Server};
-use sqlite_items::Items;
+use peer_zone::{Method, PeerCall, PeerReply, PeerZone};
 use std::alloc::Global;
 use std::process::Abort;
 use std::test::Fail;
-use zone_object::{Entry, Journal, ZoneView};
-use zone_outside::Text;
+use zone_object::Journal;
 
 /// How many calls a zone is asked.
 const CALLS: u32 = 2000;
 
 // ---- the zones
-
-/// A server with an address of one byte.
-fn server(rt: &impl Abort, alloc: Global, peer: &PlainPeer) -> Result<Server, Fail>
-    ensures { IfOk result (λ server. IsServer server) }
-{
-    assert!(rt; peer.weight > 0 && peer.weight < 65_536);
-    assert!(rt; peer.max_conns <= 1_000_000_000 && peer.max_fails <= 1_000_000_000);
-    assert!(rt; peer.fail_timeout <= 31_536_000);
-    let address = Text::of(alloc, b"a")?;
-    assert!(rt; address.bytes().len() == 1);
-    Ok(Server {
-        address,
-        weight: peer.weight,
-        max_conns: peer.max_conns,
-        max_fails: peer.max_fails,
-        fail_timeout: peer.fail_timeout,
-        down: peer.down,
-    })
-}
-
-/// The servers of a list.
-fn servers(rt: &impl Abort, alloc: Global, peers: &[PlainPeer]) -> Result<Items<Server>, Fail>
-    ensures { IfOk result (λ servers. All IsServer servers) }
-{
-    let mut servers = Items::new(alloc);
-    for one in peers {
-        servers.push(server(rt, alloc, one)?)?;
-    }
-    Ok(servers)
-}
 
 /// An upstream: its method and its lists.
 #[derive(Drop)]
@@ -118,133 +81,45 @@ fn answer(
 }
 
 /// A list of so many servers.
-fn drawn_list(alloc: Global, draws: &mut Draws, many: u64) -> Result<Vec<PlainPeer>, Fail> {
+fn drawn_list(alloc: Global, draws: &mut Draws, many: u64) -> Result<Vec<Declared>, Fail> {
     let mut list = Vec::new(alloc);
     for _server in 0..many {
-        list.push(PlainPeer::new(
-            1 + draws.below(6),
-            draws.below(3) * 4,
-            draws.below(4),
-            draws.below(12),
-            draws.happens(8),
-        ))?;
+        list.push(Declared {
+            weight: 1 + draws.below(6),
+            max_conns: draws.below(3) * 4,
+            max_fails: draws.below(4),
+            fail_timeout: draws.below(12),
+            down: draws.happens(8),
+            ..ONE
+        })?;
     }
     Ok(list)
 }
 
-/// A zone `u` of these servers, of 32,768 bytes, with an empty journal.
-fn opened(rt: &impl Abort, alloc: Global, upstream: &Upstream) -> Result<Journal<PeerZone>, Fail>
+/// The plain list of these servers.
+fn plain_list(alloc: Global, declared: &[Declared]) -> Result<Vec<PlainPeer>, Fail> {
+    let mut list = Vec::new(alloc);
+    for one in declared {
+        list.push(PlainPeer::new(one))?;
+    }
+    Ok(list)
+}
+
+/// A zone of 32,768 bytes with these servers, with an empty journal.
+fn begun(
+    rt: &impl Abort,
+    alloc: Global,
+    method: Method,
+    primary: &[Declared],
+    backup: &[Declared],
+) -> Result<Journal<PeerZone>, Fail>
     ensures { IfOk result (λ journal. (journal.room ≡ 2000) × (journal.log ≡ [])) }
 {
-    let name = Text::of(alloc, b"u")?;
-    let primary = servers(rt, alloc, &upstream.primary)?;
-    let backup = servers(rt, alloc, &upstream.backup)?;
-    assert!(rt; name.bytes().len() == 1);
-    assert!(rt; primary.len() > 0 && primary.len() <= 64 && backup.len() <= 64);
-    let spec = PeerSpec {
-        name,
-        bytes: 32_768,
-        page_shift: 12,
-        method: upstream.method,
-        primary,
-        backup,
-    };
-    let zone = PeerZone::open(alloc, spec)?;
+    let zone = opened(rt, alloc, 32_768, method, primary, backup)??;
     Ok(Journal::new(alloc, zone, CALLS)?)
 }
 
 // ---- the calls
-
-/// How often a reply gives this server.
-fn given(call: &PeerCall, reply: PeerReply, list: u32, index: u32) -> u64
-    ensures { result ≡ given_by list index call.now reply }
-{
-    match call {
-        Choose { list: to, .. } => match reply {
-            Peer { index: at } => u64::from(*to == list && at == index),
-            NoPeer => 0,
-            Freed => 0,
-        },
-        Free { .. } => 0,
-    }
-}
-
-/// How often a call gives it back.
-fn back(call: &PeerCall, list: u32, index: u32) -> u64
-    ensures { result ≡ back_by list index call.now }
-{
-    match call {
-        Choose { .. } => 0,
-        Free {
-            list: to,
-            index: at,
-            ..
-        } => u64::from(*to == list && *at == index),
-    }
-}
-
-/// What caller 0 was given of a server, and what it gave back.
-#[derive(Clone, Copy)]
-struct Tally {
-    given: u64,
-    back: u64,
-}
-
-/// The same in these entries.
-fn had(entries: &[Entry<PeerZone>], list: u32, index: u32) -> Tally
-    requires { length entries.now < 2 ^ 32 }
-    ensures given { result.given ≡ sum_by (given_in list index) (own entries.now 0) }
-    ensures back { result.back ≡ sum_by (back_in list index) (own entries.now 0) }
-    ensures few { (result.given ≤ length entries.now) × (result.back ≤ length entries.now) }
-{
-    let Some((entry, rest)) = entries.split_first() else {
-        return Tally { given: 0, back: 0 };
-    };
-    let later = had(rest, list, index);
-    if entry.caller != 0 {
-        return later;
-    }
-    Tally {
-        given: given(&entry.call, entry.reply, list, index) + later.given,
-        back: back(&entry.call, list, index) + later.back,
-    }
-}
-
-/// Makes a call for caller 0, which frees only what it has.
-fn made(rt: &impl Abort, journal: &mut Journal<PeerZone>, call: &PeerCall) -> PeerReply
-    requires { length journal.old.log < journal.old.room }
-    ensures room { journal.new.room ≡ journal.old.room }
-    ensures log { length journal.new.log ≡ length journal.old.log + 1 }
-{
-    match call {
-        Choose { list, tried, now } => {
-            let (list, tried, now) = (*list, *tried, *now);
-            assert!(rt; list < 2 && now < 1 << 42);
-            journal.call(0, Choose { list, tried, now })
-        }
-        Free {
-            list,
-            index,
-            failed,
-            now,
-        } => {
-            let (list, index, failed, now) = (*list, *index, *failed, *now);
-            let entries = journal.entries();
-            assert!(rt; entries.len() < 1_000_000);
-            let had = had(entries, list, index);
-            assert!(rt; list < 2 && now < 1 << 42 && had.back < had.given);
-            journal.call(
-                0,
-                Free {
-                    list,
-                    index,
-                    failed,
-                    now,
-                },
-            )
-        }
-    }
-}
 
 /// A server that a request has.
 #[derive(Clone, Copy)]
@@ -278,27 +153,24 @@ fn drawn(draws: &mut Draws, held: &mut Vec<Taken>, now: u64) -> PeerCall {
 
 // ---- the words
 
+/// Compares a record with the plain one, and gives the offset of the next.
+fn compare_record(rt: &impl Abort, zone: &PeerZone, record: u64, peer: &PlainPeer) -> u64 {
+    let wanted = peer.words();
+    for i in 0..11u64 {
+        assert_eq!(rt; word(rt, zone, record, i + 1), wanted[i as usize]);
+    }
+    // the address
+    assert_eq!(rt; word(rt, zone, record, 12), 1);
+    assert_eq!(rt; word(rt, zone, record, 13), 97);
+    word(rt, zone, record, 0)
+}
+
 /// Compares a list of records with the plain list.
 fn compare_list(rt: &impl Abort, zone: &PeerZone, at: u64, peers: &[PlainPeer]) {
     assert_eq!(rt; word(rt, zone, at, 1), peers.len() as u64);
     let mut record = word(rt, zone, at, 0);
     for peer in peers {
-        assert_eq!(rt; word(rt, zone, record, 1), peer.weight);
-        assert_eq!(rt; word(rt, zone, record, 2), peer.effective);
-        assert_eq!(rt; word(rt, zone, record, 3), peer.current.cast_unsigned());
-        assert_eq!(rt; word(rt, zone, record, 4), peer.conns);
-        assert_eq!(rt; word(rt, zone, record, 5), peer.max_conns);
-        assert_eq!(rt; word(rt, zone, record, 6), peer.fails);
-        assert_eq!(rt; word(rt, zone, record, 7), peer.max_fails);
-        assert_eq!(rt; word(rt, zone, record, 8), peer.fail_timeout);
-        assert_eq!(rt; word(rt, zone, record, 9), peer.checked);
-        assert_eq!(rt; word(rt, zone, record, 10), peer.accessed);
-        assert_eq!(rt; word(rt, zone, record, 11), u64::from(peer.down));
-        assert_eq!(rt;
-            (word(rt, zone, record, 12), word(rt, zone, record, 13)),
-            (1, 97)
-        );
-        record = word(rt, zone, record, 0);
+        record = compare_record(rt, zone, record, peer);
     }
     assert_eq!(rt; record, 0);
 }
@@ -347,12 +219,14 @@ fn generated(
     before: Seen,
 ) -> Result<Seen, Fail> {
     let mut draws = Draws::new(seed);
+    let primary = drawn_list(alloc, &mut draws, many.0)?;
+    let backup = drawn_list(alloc, &mut draws, many.1)?;
+    let mut journal = begun(rt, alloc, method, &primary, &backup)?;
     let mut plain = Upstream {
         method,
-        primary: drawn_list(alloc, &mut draws, many.0)?,
-        backup: drawn_list(alloc, &mut draws, many.1)?,
+        primary: plain_list(alloc, &primary)?,
+        backup: plain_list(alloc, &backup)?,
     };
-    let mut journal = opened(rt, alloc, &plain)?;
     let mut held: Vec<Taken> = Vec::new(alloc);
     let mut seen = before;
     let mut now = 1000u64;

@@ -1,7 +1,7 @@
 use Rattle.std.proofs.Common.{refl}
 use Rattle.slab_model.specs.Geometry.{start_of, pages_of, most_pages, class_of, class_size, pages_for, blocks_in_page, first_index, usable_blocks}
 use Rattle.slab_model.specs.Grant.{grant}
-use Rattle.peer_zone.specs.Rows.{CycleRow, TenCyclesRow, ReturnRow, TriedRow, BackupRow, CheckedRow, DownRow, SingleRow, LeastRow, TiesRow, FullRow, SmallRow}
+use Rattle.peer_zone.specs.Rows.{CycleRow, TenCyclesRow, ReturnRow, SeventyRow, TriedRow, BackupRow, CheckedRow, DownRow, SingleRow, LeastRow, TiesRow, FullRow, SmallRow}
 use Rattle.peer_zone.proofs.theorems.worked_rows.Goals as goal
 
 cycle_row : CycleRow
@@ -15,6 +15,10 @@ ten_cycles_row = refl
 return_row : ReturnRow
 unfolding start_of pages_of most_pages class_of class_size pages_for blocks_in_page first_index usable_blocks grant
 return_row = (refl, refl)
+
+seventy_row : SeventyRow
+unfolding start_of pages_of most_pages class_of class_size pages_for blocks_in_page first_index usable_blocks grant
+seventy_row = (refl, refl)
 
 ties_row : TiesRow
 unfolding start_of pages_of most_pages class_of class_size pages_for blocks_in_page first_index usable_blocks grant
@@ -57,6 +61,7 @@ returns c = record {
   cycle = cycle_row;
   ten_cycles = ten_cycles_row;
   comes_back = return_row;
+  seventy = seventy_row;
   tried = tried_row;
   backup = backup_row;
   checked = checked_row;
