@@ -16,12 +16,12 @@ use Rattle.decision_text.specs.TailText.{AreWords, word_text, words_text, image_
 -- ---- where a text is cut
 
 -- the byte isn't in the text
-abbrev Lacks : ℕ → List ℕ → Type 0
+abbrev pub Lacks : ℕ → List ℕ → Type 0
 Lacks s [] = Unit {0}
 Lacks s (c ∷ cs) = (c ≢ s) × Lacks s cs
 
 -- two equal texts are cut alike at the first place of a byte
-cut_at : (s : ℕ) (a b x y : List ℕ) → Lacks s a → Lacks s b → a ++ s ∷ x ≡ b ++ s ∷ y → (a ≡ b) × (x ≡ y)
+pub cut_at : (s : ℕ) (a b x y : List ℕ) → Lacks s a → Lacks s b → a ++ s ∷ x ≡ b ++ s ∷ y → (a ≡ b) × (x ≡ y)
 cut_at s [] [] x y p q e = (refl, cc)
 cut_at s [] (b ∷ bs) x y p q e = let h : b ≡ s = cc in absurd (q.0 h)
 cut_at s (a ∷ as_) [] x y p q e = let h : a ≡ s = cc in absurd (p.0 h)
@@ -42,12 +42,12 @@ cut_behind (a ∷ as_) (b ∷ bs) x y same e =
     let more = cut_behind as_ bs x y (omega (arith, same)) rest in
     (ap (λ (c : ℕ). c ∷ as_) first ∙ ap (λ (cs : List ℕ). b ∷ cs) more.0, more.1)
 
-lacks-append : (s : ℕ) (a b : List ℕ) → Lacks s a → Lacks s b → Lacks s (a ++ b)
+pub lacks-append : (s : ℕ) (a b : List ℕ) → Lacks s a → Lacks s b → Lacks s (a ++ b)
 lacks-append s [] b p q = q
 lacks-append s (c ∷ cs) b p q = (p.0, lacks-append s cs b p.1 q)
 
 -- a number has digits alone
-lacks-decimal : (s n : ℕ) → s < 48 → n < 2 ^ 64 → Lacks s (decimal n)
+pub lacks-decimal : (s n : ℕ) → s < 48 → n < 2 ^ 64 → Lacks s (decimal n)
 lacks-decimal s n low small =
     decimal_by_steps (λ m ds. Lacks s ds)
     (λ m l. (λ e. absurd (omega (arith, e, low)), tt))
@@ -55,7 +55,7 @@ lacks-decimal s n low small =
 
 -- ---- a word in hexadecimal digits
 
-bytes-word : (v : ℕ) → IsBytes (to_be_bytes w64 v)
+pub bytes-word : (v : ℕ) → IsBytes (to_be_bytes w64 v)
 bytes-word v zero = omega arith
 bytes-word v (suc zero) = omega arith
 bytes-word v (suc (suc zero)) = omega arith

@@ -5,3 +5,4 @@ pub mod CheckText
 pub mod HistoryText
 pub mod TailText
 pub mod DecisionText
+pub mod Telling

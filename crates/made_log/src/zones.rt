@@ -60,8 +60,8 @@ pub fn push_zone_summary(
     spec: &ZoneSpec,
     zone: &ZoneJournal,
 ) -> Result<(), AllocError>
-    requires { (room : ℕ) × IsJournalOf spec.now room zone.now }
-    ensures { (room : ℕ) → IsJournalOf spec.now room zone.now → OnOk result (text.new.items ≡ text.old.items ++ line_of spec.now (log_of zone.now)) }
+    requires { (room : ℕ) × IsJournalOf room spec.now zone.now }
+    ensures { (room : ℕ) → IsJournalOf room spec.now zone.now → OnOk result (text.new.items ≡ text.old.items ++ line_of spec.now (log_of zone.now)) }
 {
     match (spec, zone) {
         (ZoneSpec::Req { spec, key: _ }, ZoneJournal::Req { journal }) => {

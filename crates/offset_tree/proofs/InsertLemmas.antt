@@ -263,13 +263,6 @@ rising_of m n t rank b xs p side o shape = record {
   deep = refl;
 }
 
-pub hits_from : (y : ℕ) (u : Shape) → In y (blocks_of u) → 0 < hits y u
-hits_from y leaf i = absurd i
-hits_from y (node c a x b) i = elim (In-append_cases y (blocks_of a) (x ∷ blocks_of b) i) [
-  | inl l ↦ omega (arith, hits_from y a l)
-  | inr r ↦ elim r [ inl e ↦ omega (arith, one-same y x e) | inr t ↦ omega (arith, hits_from y b t) ]
-]
-
 -- all of it
 pub inserted : (m n : Words) (t : Tree) (b : ℕ) (key : List ℕ) (xs : List ℕ) (p : ℕ) (side : Side) → IsForm t.form → CanInsert m t b key xs → (o : Opening m t (word_at m b 0, key) xs p side) →
     Settled n t.context.at (o.before ++ b ∷ o.after) → ChangesNodes m n t.context.at (o.before ++ b ∷ o.after) → Inserted m n t b xs

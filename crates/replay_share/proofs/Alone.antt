@@ -16,10 +16,10 @@ use Rattle.request_script.specs.declared.active.Active.{Active}
 use Rattle.request_script.specs.Turn.{Leads}
 use Rattle.replay_share.specs.declared.journal.ZoneJournal.{ZoneJournal}
 use Rattle.replay_share.specs.declared.journal.ZoneJournal.TheVariants.{Req, Conn, Peer}
-use Rattle.replay_share.specs.Logs.{ZoneLog, IsLogOf, IsLogAt}
-use Rattle.replay_share.specs.Asked.{IsAt}
-use Rattle.replay_share.specs.Journals.{IsJournalOf, HasJournal, Serves, log_of}
+use Rattle.replay_share.specs.Logs.{ZoneLog, IsAt, IsLogOf}
+use Rattle.replay_share.specs.Journals.{IsJournalOf, Serves, log_of}
 use Rattle.replay_share.specs.Share.{HasReplayed}
+use Rattle.replay_share.specs.OneReplay.{AloneIsReplay}
 use Rattle.replay_share.specs.Replay.{Decided, line_of, decision_of, goes_to, is_for, lines_of, share_of, HasPlayed, IsReplay}
 
 -- ---- the lines and their decisions
@@ -58,7 +58,7 @@ lines_all (l ∷ ls) = rw (line_mine l) (ap (λ (rest : List Line). l ∷ rest) 
 
 -- ---- the histories
 
-log_of_one : (room : ℕ) (spec : ZoneSpec) (journal : ZoneJournal) → IsJournalOf spec room journal → IsLogOf 1 spec (log_of journal)
+log_of_one : (room : ℕ) (spec : ZoneSpec) (journal : ZoneJournal) → IsJournalOf room spec journal → IsLogOf 1 spec (log_of journal)
 log_of_one room (zone.Req spec key) (Req journal) h = (h.ran.history, h.mine)
 log_of_one room (zone.Conn spec key) (Conn journal) h = (h.ran.history, h.mine)
 log_of_one room (zone.Peer spec at) (Peer journal) h = (h.ran.history, h.mine)
@@ -69,7 +69,7 @@ log_of_one room (zone.Conn spec key) (Peer journal) h = elim h [ ]
 log_of_one room (zone.Peer spec at) (Req journal) h = elim h [ ]
 log_of_one room (zone.Peer spec at) (Conn journal) h = elim h [ ]
 
-log_at : (room z : ℕ) (spec : Option ZoneSpec) (journal : Option ZoneJournal) → IsAt (HasJournal room z) spec journal → IsLogAt 1 spec (option_map log_of journal)
+log_at : (room z : ℕ) (spec : Option ZoneSpec) (journal : Option ZoneJournal) → IsAt (IsJournalOf room) spec journal → IsAt (IsLogOf 1) spec (option_map log_of journal)
 log_at room z None None h = tt
 log_at room z (Some spec) (Some journal) h = log_of_one room spec journal h
 log_at room z None (Some journal) h = elim h [ ]
@@ -92,6 +92,12 @@ plays_alone config room journals lines decisions pair h =
     let played : HasPlayed config (share_of 1 0 pair.decided) 0 (map log_of journals) = subst (λ (l : List Decided). HasPlayed config l 0 (map log_of journals)) (sym mine) all in
     record {
       lines_are = pair.lines_are;
-      histories = λ z. subst (λ (o : Option ZoneLog). IsLogAt 1 (slice_get config.zones z) o) (sym (slice_get-map log_of journals z)) (log_at room z (slice_get config.zones z) (slice_get journals z) (h.served.each z));
+      histories = λ z. subst (λ (o : Option ZoneLog). IsAt (IsLogOf 1) (slice_get config.zones z) o) (sym (slice_get-map log_of journals z)) (log_at room z (slice_get config.zones z) (slice_get journals z) (h.served.each z));
       shares = λ k low. let k_is : k ≡ 0 = omega (arith, low) in subst (λ (i : ℕ). HasPlayed config (share_of 1 i pair.decided) i (map log_of journals)) (sym k_is) played;
     }
+
+pub alone-is-replay : AloneIsReplay
+alone-is-replay config room journals lines decisions h =
+    let all : HasReplayed (Serves journals config.zones room) config lines decisions = subst (λ (l : List Line). HasReplayed (Serves journals config.zones room) config l decisions) (lines_all lines) h in
+    let pair = pairs config nothing_active lines all.asked decisions all.table all.drives in
+    (pair.decided, pair.decisions_are, plays_alone config room journals lines decisions pair all)

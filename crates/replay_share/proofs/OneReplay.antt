@@ -27,7 +27,7 @@ use Rattle.request_script.specs.Turn.{Exchange}
 use Rattle.request_script.specs.Drive.{Table, nothing_active, Drives, req_part, conn_part, peer_part}
 use Rattle.request_script.specs.Permitted.{IsOfKind, zone_of}
 use Rattle.replay_share.specs.Calls.{IsReplyTo, IsWith}
-use Rattle.replay_share.specs.Logs.{ReqEntry, ConnEntry, PeerEntry, ZoneLog, req_opened, conn_opened, peer_opened, IsLogAt, AreLogsOf, HasPart, HasParts}
+use Rattle.replay_share.specs.Logs.{ReqEntry, ConnEntry, PeerEntry, ZoneLog, req_opened, conn_opened, peer_opened, IsAt, IsLogOf, AreLogsOf, HasPart, HasParts}
 use Rattle.replay_share.specs.Logs.ZoneLog.{req_log, conn_log, peer_log}
 use Rattle.replay_share.specs.Replay.{Decided, line_of, decision_of, is_for, share_of, HasPlayed, IsReplay}
 use Rattle.replay_share.specs.OneReplay.{Outcome, OneReplay}
@@ -71,7 +71,7 @@ abbrev HasPartAt : Option ZoneLog → ℕ → List Exchange → Type 0
 HasPartAt log z asked = IfSome log (HasPart asked 0 z)
 
 module _ (past more : List Exchange) (z : ℕ) where
-  req-answered : (spec : Option ZoneSpec) (log : Option ZoneLog) (call : ReqCall) (reply : ReqReply) → IsReqZone spec → IsLogAt 1 spec log → HasPartAt log z (past ++ record { call = to.Req z call; reply = from.Req reply } ∷ more) → Some (from.Req reply) ≡ answer_at spec past (to.Req z call)
+  req-answered : (spec : Option ZoneSpec) (log : Option ZoneLog) (call : ReqCall) (reply : ReqReply) → IsReqZone spec → IsAt (IsLogOf 1) spec log → HasPartAt log z (past ++ record { call = to.Req z call; reply = from.Req reply } ∷ more) → Some (from.Req reply) ≡ answer_at spec past (to.Req z call)
   req-answered (Some (zone.Req spec key)) (Some (req_log log)) call reply kind h part =
       ap (λ (r : ReqReply). Some (from.Req r))
       (solo-reply req.answer_of req.zone_after (req_opened spec) log (req_part z past) (req_part z more) (record { call = call; reply = reply }) h.1 h.0.legal (part ∙ req-split past more z call reply))
@@ -82,7 +82,7 @@ module _ (past more : List Exchange) (z : ℕ) where
   req-answered (Some (zone.Peer spec at)) log call reply kind h part = absurd kind
   req-answered None log call reply kind h part = absurd kind
 
-  conn-answered : (spec : Option ZoneSpec) (log : Option ZoneLog) (call : ConnCall) (reply : ConnReply) → IsConnZone spec → IsLogAt 1 spec log → HasPartAt log z (past ++ record { call = to.Conn z call; reply = from.Conn reply } ∷ more) → Some (from.Conn reply) ≡ answer_at spec past (to.Conn z call)
+  conn-answered : (spec : Option ZoneSpec) (log : Option ZoneLog) (call : ConnCall) (reply : ConnReply) → IsConnZone spec → IsAt (IsLogOf 1) spec log → HasPartAt log z (past ++ record { call = to.Conn z call; reply = from.Conn reply } ∷ more) → Some (from.Conn reply) ≡ answer_at spec past (to.Conn z call)
   conn-answered (Some (zone.Conn spec key)) (Some (conn_log log)) call reply kind h part =
       ap (λ (r : ConnReply). Some (from.Conn r))
       (solo-reply conn.answer_of conn.zone_after (conn_opened spec) log (conn_part z past) (conn_part z more) (record { call = call; reply = reply }) h.1 h.0.legal (part ∙ conn-split past more z call reply))
@@ -93,7 +93,7 @@ module _ (past more : List Exchange) (z : ℕ) where
   conn-answered (Some (zone.Peer spec at)) log call reply kind h part = absurd kind
   conn-answered None log call reply kind h part = absurd kind
 
-  peer-answered : (spec : Option ZoneSpec) (log : Option ZoneLog) (call : PeerCall) (reply : PeerReply) → IsSomePeerZone spec → IsLogAt 1 spec log → HasPartAt log z (past ++ record { call = to.Peer z call; reply = from.Peer reply } ∷ more) → Some (from.Peer reply) ≡ answer_at spec past (to.Peer z call)
+  peer-answered : (spec : Option ZoneSpec) (log : Option ZoneLog) (call : PeerCall) (reply : PeerReply) → IsSomePeerZone spec → IsAt (IsLogOf 1) spec log → HasPartAt log z (past ++ record { call = to.Peer z call; reply = from.Peer reply } ∷ more) → Some (from.Peer reply) ≡ answer_at spec past (to.Peer z call)
   peer-answered (Some (zone.Peer spec at)) (Some (peer_log log)) call reply kind h part =
       ap (λ (r : PeerReply). Some (from.Peer r))
       (solo-reply peer.answer_of peer.zone_after (peer_opened spec) log (peer_part z past) (peer_part z more) (record { call = call; reply = reply }) h.1 h.0.legal (part ∙ peer-split past more z call reply))
@@ -106,7 +106,7 @@ module _ (past more : List Exchange) (z : ℕ) where
 
 -- one exchange has the answer of its zone
 answered : (zones : List ZoneSpec) (log : Option ZoneLog) (past more : List Exchange) (call : ZoneCall) (reply : ZoneReply) → IsOfKind (slice_get zones (zone_of call)) call → IsReplyTo call reply
-    → IsLogAt 1 (slice_get zones (zone_of call)) log → HasPartAt log (zone_of call) (past ++ record { call = call; reply = reply } ∷ more) → Some reply ≡ answer_in zones past call
+    → IsAt (IsLogOf 1) (slice_get zones (zone_of call)) log → HasPartAt log (zone_of call) (past ++ record { call = call; reply = reply } ∷ more) → Some reply ≡ answer_in zones past call
 answered zones log past more (to.Req z call) (from.Req reply) kind is h part = req-answered past more z (slice_get zones z) log call reply kind h part
 answered zones log past more (to.Req z call) (from.Conn reply) kind is h part = absurd is
 answered zones log past more (to.Req z call) (from.Peer reply) kind is h part = absurd is
@@ -129,7 +129,7 @@ all_answered zones logs past (e ∷ es) are parts kinds =
 -- ---- the histories
 
 -- two histories of a zone that have the same part are equal
-one_log : (asked : List Exchange) (z : ℕ) (spec : Option ZoneSpec) (log other : Option ZoneLog) → IsLogAt 1 spec log → IsLogAt 1 spec other → HasPartAt log z asked → HasPartAt other z asked → log ≡ other
+one_log : (asked : List Exchange) (z : ℕ) (spec : Option ZoneSpec) (log other : Option ZoneLog) → IsAt (IsLogOf 1) spec log → IsAt (IsLogOf 1) spec other → HasPartAt log z asked → HasPartAt other z asked → log ≡ other
 one_log asked z None None None h k part so = refl
 one_log asked z None None (Some other) h k part so = absurd k
 one_log asked z None (Some log) other h k part so = absurd h

@@ -27,9 +27,8 @@ use Rattle.zone_config.specs.declared.data.ReqData.{ReqData}
 use Rattle.zone_config.specs.declared.data.ConnData.{ConnData}
 use Rattle.request_script.specs.ZoneSpecs.{peer_spec, server_of}
 use Rattle.replay_share.specs.declared.journal.ZoneJournal.{ZoneJournal}
-use Rattle.replay_share.specs.Logs.{ReqEntry, ConnEntry, PeerEntry, HasPart, req_opened, conn_opened, peer_opened}
-use Rattle.replay_share.specs.Asked.{IsAt}
-use Rattle.replay_share.specs.Journals.{RunsReq, RunsConn, RunsPeer, HasJournal, Serves, log_of}
+use Rattle.replay_share.specs.Logs.{IsAt, ReqEntry, ConnEntry, PeerEntry, HasPart, req_opened, conn_opened, peer_opened}
+use Rattle.replay_share.specs.Journals.{RunsReq, RunsConn, RunsPeer, IsJournalOf, Serves, log_of}
 use Rattle.replay_share.specs.Opening.{IsNewReq, IsNewConn, IsNewPeer, IsFresh, refused_at, refused_line, first_of}
 
 -- ---- an upstream's zone
@@ -110,7 +109,7 @@ fresh-push room (s ∷ ss) (j ∷ js) spec journal h one = (h.0, fresh-push room
 fresh-push room [] (j ∷ js) spec journal h one = elim h [ ]
 fresh-push room (s ∷ ss) [] spec journal h one = elim h [ ]
 
-at_each : (room : ℕ) (specs : List ZoneSpec) (journals : List ZoneJournal) → AreFresh room specs journals → (i z : ℕ) → IsAt (HasJournal room i) (slice_get specs z) (slice_get journals z)
+at_each : (room : ℕ) (specs : List ZoneSpec) (journals : List ZoneJournal) → AreFresh room specs journals → (i z : ℕ) → IsAt (IsJournalOf room) (slice_get specs z) (slice_get journals z)
 at_each room [] [] h i z = tt
 at_each room (s ∷ ss) (j ∷ js) h i zero = h.0.kept
 at_each room (s ∷ ss) (j ∷ js) h i (suc z) = at_each room ss js h.1 i z

@@ -13,8 +13,8 @@ use Rattle.request_script.specs.declared.call.ZoneReply.{ZoneReply}
 use Rattle.request_script.specs.Turn.{Exchange}
 use Rattle.request_script.specs.Permitted.{IsOfKind, zone_of}
 use Rattle.replay_share.specs.Calls.{IsReplyTo, IsWith, CanAsk}
-use Rattle.replay_share.specs.Logs.{ZoneLog, HasPart, HasParts}
-use Rattle.replay_share.specs.Asked.{IsAt, HasAsked, HasTaken, MayTake}
+use Rattle.replay_share.specs.Logs.{ZoneLog, IsAt, HasPart, HasParts}
+use Rattle.replay_share.specs.Asked.{HasAsked, HasTaken, MayTake}
 use Rattle.replay_share.proofs.Parts.{part-stays}
 
 -- ---- two numbers

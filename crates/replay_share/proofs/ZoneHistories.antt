@@ -46,7 +46,7 @@ use Rattle.request_script.specs.Drive.{Made, req_made, conn_made, peer_made, req
 use Rattle.request_script.specs.Permitted.{MayAsk, IsOfKind, zone_of, calls_to}
 use Rattle.request_script.specs.ZoneSpecs.{peer_spec, server_of}
 use Rattle.replay_share.specs.Calls.{IsReplyTo, IsWith}
-use Rattle.replay_share.specs.Logs.{ZoneLog, req_opened, conn_opened, peer_opened, IsLogOf, IsLogAt, AreLogsOf, HasPart, HasParts}
+use Rattle.replay_share.specs.Logs.{ZoneLog, req_opened, conn_opened, peer_opened, IsAt, IsLogOf, AreLogsOf, HasPart, HasParts}
 use Rattle.replay_share.specs.Logs.ZoneLog.{req_log, conn_log, peer_log}
 use Rattle.replay_share.specs.Opening.{line_if_refused, refused_at, first_of, refused_line}
 use Rattle.replay_share.proofs.Parts.{req_few, conn_few, peer_few}
@@ -132,17 +132,17 @@ module _ (refused : RefusedLaw) (opened : OpenedLaw) where
       some_none : (n : ℕ) → Some n ≡ None → ⊥
       some_none n is = cc
 
-  all_begun : (n : ℕ) (specs : List ZoneSpec) → All IsZoneSpec specs → All HasOwnServers specs → refused_line specs ≡ None → (z : ℕ) → IsLogAt 1 (slice_get specs z) (log_at (n + z) [] (slice_get specs z))
+  all_begun : (n : ℕ) (specs : List ZoneSpec) → All IsZoneSpec specs → All HasOwnServers specs → refused_line specs ≡ None → (z : ℕ) → IsAt (IsLogOf 1) (slice_get specs z) (log_at (n + z) [] (slice_get specs z))
   all_begun n [] are have none z = tt
   all_begun n (spec ∷ specs) are have none zero =
       begun (n + 0) spec (All-head IsZoneSpec spec specs are) (All-head HasOwnServers spec specs have) (first_none (refused_at spec) (refused_line specs) none).0
   all_begun n (spec ∷ specs) are have none (suc z) =
       let at : n + 1 + z ≡ n + suc z = omega arith in
-      subst (λ (k : ℕ). IsLogAt 1 (slice_get specs z) (log_at k [] (slice_get specs z))) at
+      subst (λ (k : ℕ). IsAt (IsLogOf 1) (slice_get specs z) (log_at k [] (slice_get specs z))) at
       (all_begun (n + 1) specs (All-tail IsZoneSpec spec specs are) (All-tail HasOwnServers spec specs have) (first_none (refused_at spec) (refused_line specs) none).1 z)
 
-  pub none_asked : (specs : List ZoneSpec) → All IsZoneSpec specs → All HasOwnServers specs → refused_line specs ≡ None → (z : ℕ) → IsLogAt 1 (slice_get specs z) (log_at z [] (slice_get specs z))
-  none_asked specs are have none z = let at : 0 + z ≡ z = omega arith in subst (λ (k : ℕ). IsLogAt 1 (slice_get specs z) (log_at k [] (slice_get specs z))) at (all_begun 0 specs are have none z)
+  pub none_asked : (specs : List ZoneSpec) → All IsZoneSpec specs → All HasOwnServers specs → refused_line specs ≡ None → (z : ℕ) → IsAt (IsLogOf 1) (slice_get specs z) (log_at z [] (slice_get specs z))
+  none_asked specs are have none z = let at : 0 + z ≡ z = omega arith in subst (λ (k : ℕ). IsAt (IsLogOf 1) (slice_get specs z) (log_at k [] (slice_get specs z))) at (all_begun 0 specs are have none z)
 
 -- ---- a call to the zone
 
@@ -184,8 +184,8 @@ answer_kind None asked (to.Conn z call) kind = absurd kind
 answer_kind None asked (to.Peer z call) kind = absurd kind
 
 -- the history of the zone that is asked grows by the call with its answer
-grows : (spec : Option ZoneSpec) (asked : List Exchange) (call : ZoneCall) → IsOfKind spec call → calls_to (zone_of call) asked + 1 < 2 ^ 32 → MayAsk asked call → IsLogAt 1 spec (log_at (zone_of call) asked spec)
-    → IsLogAt 1 spec (log_at (zone_of call) (asked ++ exchange_at spec asked call ∷ []) spec)
+grows : (spec : Option ZoneSpec) (asked : List Exchange) (call : ZoneCall) → IsOfKind spec call → calls_to (zone_of call) asked + 1 < 2 ^ 32 → MayAsk asked call → IsAt (IsLogOf 1) spec (log_at (zone_of call) asked spec)
+    → IsAt (IsLogOf 1) spec (log_at (zone_of call) (asked ++ exchange_at spec asked call ∷ []) spec)
 grows (Some (zone.Req spec key)) asked (to.Req z call) kind few may h =
     let reply = req.answer_of (run req.zone_after (req_opened spec) (req_entries z asked)) call in
     let short : length (req_part z asked) + 1 < 2 ^ 32 = omega (arith, few, req_few z asked) in
@@ -257,14 +257,14 @@ log_stays z (Some (zone.Peer spec at)) asked e differs = ap (λ (l : List (Made 
 
 -- what a caller alone asked was asked of zones that are there, and each zone has a legal history of it
 pub record IsPlayed (zones : List ZoneSpec) (asked : List Exchange) : Type 0 where
-  pub each : (z : ℕ) → IsLogAt 1 (slice_get zones z) (log_at z asked (slice_get zones z))
+  pub each : (z : ℕ) → IsAt (IsLogOf 1) (slice_get zones z) (log_at z asked (slice_get zones z))
   pub kinds : All (IsWith zones) asked
 
 -- the histories of all zones are legal
 pub played_logs : (zones : List ZoneSpec) (asked : List Exchange) → IsPlayed zones asked → AreLogsOf 1 zones (logs_from 0 zones asked)
 played_logs zones asked h z =
     let at : 0 + z ≡ z = omega arith in
-    subst (λ (o : Option ZoneLog). IsLogAt 1 (slice_get zones z) o) (sym (logs-at 0 zones asked z ∙ ap (λ (n : ℕ). log_at n asked (slice_get zones z)) at)) (h.each z)
+    subst (λ (o : Option ZoneLog). IsAt (IsLogOf 1) (slice_get zones z) o) (sym (logs-at 0 zones asked z ∙ ap (λ (n : ℕ). log_at n asked (slice_get zones z)) at)) (h.each z)
 
 -- one call more
 pub played_more : (zones : List ZoneSpec) (asked : List Exchange) (call : ZoneCall) → IsOfKind (slice_get zones (zone_of call)) call → calls_to (zone_of call) asked + 1 < 2 ^ 32 → MayAsk asked call → IsPlayed zones asked
@@ -273,8 +273,8 @@ played_more zones asked call kind few may h =
     let e = exchange_at (slice_get zones (zone_of call)) asked call in
     record {
       each = λ z. ⊎_elim
-          (λ (same : (eqb (zone_of call) z ≡ true) × (zone_of call ≡ z)). subst (λ (n : ℕ). IsLogAt 1 (slice_get zones n) (log_at n (asked ++ e ∷ []) (slice_get zones n))) same.1 (grows (slice_get zones (zone_of call)) asked call kind few may (h.each (zone_of call))))
-          (λ (apart : (eqb (zone_of call) z ≡ false) × (zone_of call ≢ z)). subst (λ (o : Option ZoneLog). IsLogAt 1 (slice_get zones z) o) (sym (log_stays z (slice_get zones z) asked e apart.1)) (h.each z))
+          (λ (same : (eqb (zone_of call) z ≡ true) × (zone_of call ≡ z)). subst (λ (n : ℕ). IsAt (IsLogOf 1) (slice_get zones n) (log_at n (asked ++ e ∷ []) (slice_get zones n))) same.1 (grows (slice_get zones (zone_of call)) asked call kind few may (h.each (zone_of call))))
+          (λ (apart : (eqb (zone_of call) z ≡ false) × (zone_of call ≢ z)). subst (λ (o : Option ZoneLog). IsAt (IsLogOf 1) (slice_get zones z) o) (sym (log_stays z (slice_get zones z) asked e apart.1)) (h.each z))
           (eqb_tells (zone_of call) z);
       kinds = All-push (IsWith zones) asked e h.kinds (record { there = kind; reply = answer_kind (slice_get zones (zone_of call)) asked call kind });
     }

@@ -1,19 +1,12 @@
 -- What one caller asked of the zones of a configuration, where each zone's history is known by something of its own: a journal, or a pass.
-use Rattle.std.specs.Prelude.{ℕ, ◌<◌, List, map, Option, Some, None, slice_get}
+use Rattle.std.specs.Prelude.{ℕ, ◌<◌, List, map, Some, slice_get}
 use Rattle.std.specs.List.{All}
 use Rattle.zone_config.specs.declared.data.ZoneSpec.{ZoneSpec}
 use Rattle.request_script.specs.declared.call.ZoneCall.{ZoneCall}
 use Rattle.request_script.specs.Turn.{Exchange}
 use Rattle.request_script.specs.Permitted.{MayAsk, IsOfKind, zone_of, calls_to}
 use Rattle.replay_share.specs.Calls.{IsWith}
-use Rattle.replay_share.specs.Logs.{ZoneLog, HasPart, HasParts}
-
-module _ {J : Type 0} where
-  -- what stands for a zone, at its place
-  abbrev pub IsAt : (ZoneSpec → J → Type 0) → Option ZoneSpec → Option J → Type 0
-  IsAt IsOf (Some spec) (Some j) = IsOf spec j
-  IsAt IsOf None None = Unit {0}
-  IsAt IsOf _ _ = ⊥
+use Rattle.replay_share.specs.Logs.{ZoneLog, IsAt, HasPart, HasParts}
 
 -- `IsOf z spec j`: j stands for zone z, which the configuration says so. `log_of j`: what it knows of the zone's history.
 module _ {J : Type 0} (IsOf : ℕ → ZoneSpec → J → Type 0) (log_of : J → ZoneLog) (who : ℕ) where

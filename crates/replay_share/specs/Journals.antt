@@ -19,8 +19,8 @@ use Rattle.request_script.specs.declared.call.ZoneCall.{ZoneCall}
 use Rattle.request_script.specs.Turn.{Exchange}
 use Rattle.replay_share.specs.declared.journal.ZoneJournal.{ZoneJournal}
 use Rattle.replay_share.specs.declared.journal.ZoneJournal.TheVariants.{Req, Conn, Peer}
-use Rattle.replay_share.specs.Logs.{ReqEntry, ConnEntry, PeerEntry, ZoneLog, req_opened, conn_opened, peer_opened, HasCallersBelow}
-use Rattle.replay_share.specs.Asked.{IsAt, HasAsked, HasTaken, MayTake}
+use Rattle.replay_share.specs.Logs.{ReqEntry, ConnEntry, PeerEntry, ZoneLog, IsAt, req_opened, conn_opened, peer_opened, HasCallersBelow}
+use Rattle.replay_share.specs.Asked.{HasAsked, HasTaken, MayTake}
 use Rattle.replay_share.specs.Logs.ZoneLog.{req_log, conn_log, peer_log}
 
 -- ---- one zone
@@ -43,11 +43,11 @@ pub record RunsPeer (spec : PeerData) (room : ℕ) (journal : Recorded PeerWords
   pub mine : HasCallersBelow 1 journal.log
 
 -- the journal of a zone that the configuration says
-abbrev pub IsJournalOf : ZoneSpec → ℕ → ZoneJournal → Type 0
-IsJournalOf (zone.Req spec key) room (Req journal) = RunsReq spec room journal
-IsJournalOf (zone.Conn spec key) room (Conn journal) = RunsConn spec room journal
-IsJournalOf (zone.Peer spec line) room (Peer journal) = RunsPeer spec room journal
-IsJournalOf _ room _ = ⊥
+abbrev pub IsJournalOf : ℕ → ZoneSpec → ZoneJournal → Type 0
+IsJournalOf room (zone.Req spec key) (Req journal) = RunsReq spec room journal
+IsJournalOf room (zone.Conn spec key) (Conn journal) = RunsConn spec room journal
+IsJournalOf room (zone.Peer spec line) (Peer journal) = RunsPeer spec room journal
+IsJournalOf room _ _ = ⊥
 
 -- the history that a journal has
 abbrev pub log_of : ZoneJournal → ZoneLog
@@ -57,24 +57,16 @@ log_of (Peer journal) = peer_log journal.log
 
 -- ---- all zones
 
--- whichever zone it is
-abbrev pub HasJournal : ℕ → ℕ → ZoneSpec → ZoneJournal → Type 0
-HasJournal room z spec journal = IsJournalOf spec room journal
-
--- a journal at its place among the journals of all zones
-abbrev pub IsJournalAt : ℕ → Option ZoneSpec → Option ZoneJournal → Type 0
-IsJournalAt room spec journal = IsAt (HasJournal room 0) spec journal
-
 -- The zones with their journals, which have what caller 0 asked.
 abbrev pub Serves : List ZoneJournal → List ZoneSpec → ℕ → List Exchange → Type 0
-Serves journals zones room asked = HasAsked (HasJournal room) log_of 0 journals zones asked
+Serves journals zones room asked = HasAsked (λ (z : ℕ). IsJournalOf room) log_of 0 journals zones asked
 
 -- ---- a call
 
 -- the journal has what caller 0 asked of the zone that a call goes to
 abbrev pub TakesAs : ZoneJournal → ZoneSpec → ℕ → List Exchange → ZoneCall → Type 0
-TakesAs journal spec room asked call = HasTaken (HasJournal room) log_of 0 journal spec asked call
+TakesAs journal spec room asked call = HasTaken (λ (z : ℕ). IsJournalOf room) log_of 0 journal spec asked call
 
 -- and the call may be made
 abbrev pub CanTake : ZoneJournal → ZoneSpec → ℕ → List Exchange → ZoneCall → Type 0
-CanTake journal spec room asked call = MayTake (HasJournal room) log_of 0 journal spec room asked call
+CanTake journal spec room asked call = MayTake (λ (z : ℕ). IsJournalOf room) log_of 0 journal spec room asked call

@@ -71,15 +71,15 @@ IsLogOf n (zone.Conn spec key) (conn_log log) = IsHistory conn.IsOpened conn.ans
 IsLogOf n (zone.Peer spec line) (peer_log log) = IsHistory opening.IsOpened peer.answer_of peer.zone_after peer.Permits (peer_opened spec) log × HasCallersBelow n log
 IsLogOf n _ _ = ⊥
 
--- a zone's history at its place among the histories of all zones
-abbrev pub IsLogAt : ℕ → Option ZoneSpec → Option ZoneLog → Type 0
-IsLogAt n (Some spec) (Some log) = IsLogOf n spec log
-IsLogAt n None None = Unit {0}
-IsLogAt n _ _ = ⊥
+-- what stands for a zone, at its place among what stands for all zones
+abbrev pub IsAt : {J : Type 0} → (ZoneSpec → J → Type 0) → Option ZoneSpec → Option J → Type 0
+IsAt IsOf (Some spec) (Some j) = IsOf spec j
+IsAt IsOf None None = Unit {0}
+IsAt IsOf _ _ = ⊥
 
 -- the histories of all zones, by the zones' numbers
 abbrev pub AreLogsOf : ℕ → List ZoneSpec → List ZoneLog → Type 0
-AreLogsOf n specs logs = (z : ℕ) → IsLogAt n (slice_get specs z) (slice_get logs z)
+AreLogsOf n specs logs = (z : ℕ) → IsAt (IsLogOf n) (slice_get specs z) (slice_get logs z)
 
 -- ---- one caller's calls
 

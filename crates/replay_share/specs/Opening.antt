@@ -46,7 +46,7 @@ refused_line (spec ∷ specs) = first_of (refused_at spec) (refused_line specs)
 
 -- a journal of which nothing was asked yet
 pub record IsFresh (spec : ZoneSpec) (room : ℕ) (journal : ZoneJournal) : Type 0 where
-  pub kept : IsJournalOf spec room journal
+  pub kept : IsJournalOf room spec journal
   pub nothing : (z : ℕ) → HasPart [] 0 z (log_of journal)
 
 -- a zone of each kind that lays out the state of one that was just opened

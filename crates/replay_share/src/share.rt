@@ -3,7 +3,7 @@ ghost use Rattle.std.specs.List.{All};
 ghost use Rattle.zone_config.specs.Conditions.{IsConfig};
 ghost use Rattle.replay_log.specs.declared.line.Line.{Line as LogLine};
 ghost use Rattle.replay_log.specs.Limits.{IsLineOf};
-ghost use Rattle.request_script.specs.declared.decision.Decision.{Decision as Decided};
+ghost use Rattle.request_script.specs.declared.decision.Decision.{Decision as LineDecision};
 ghost use Rattle.request_script.specs.Script.{state_of};
 ghost use Rattle.replay_share.specs.Replay.{lines_of};
 ghost use Rattle.replay_share.specs.Share.{HasDecided, HasReplayed, IsUnderWay};
@@ -27,8 +27,8 @@ fn decide<A: Answers>(
 ) -> Result<Decision, NoMemory>
     requires config { IsConfig config.now }
     requires line { IsLineOf (length config.now.locations) line.now }
-    requires before { (start : A) × (lines : List LogLine) × (decisions : List Decided) × (room : ℕ) × All (IsLineOf (length config.now.locations)) lines × (3 * length lines + 3 ≤ room) × HasDecided (A.serves start zones.old config.now.zones room) config.now (state_of script.old) lines decisions }
-    ensures { (start : A) (lines : List LogLine) (decisions : List Decided) (room : ℕ) → All (IsLineOf (length config.now.locations)) lines → 3 * length lines + 3 ≤ room → HasDecided (A.serves start zones.old config.now.zones room) config.now (state_of script.old) lines decisions
+    requires before { (start : A) × (lines : List LogLine) × (decisions : List LineDecision) × (room : ℕ) × All (IsLineOf (length config.now.locations)) lines × (3 * length lines + 3 ≤ room) × HasDecided (A.serves start zones.old config.now.zones room) config.now (state_of script.old) lines decisions }
+    ensures { (start : A) (lines : List LogLine) (decisions : List LineDecision) (room : ℕ) → All (IsLineOf (length config.now.locations)) lines → 3 * length lines + 3 ≤ room → HasDecided (A.serves start zones.old config.now.zones room) config.now (state_of script.old) lines decisions
         → IfOk result (λ decision. HasDecided (A.serves start zones.new config.now.zones room) config.now (state_of script.new) (lines ++ line.now ∷ []) (decisions ++ decision ∷ [])) }
 {
     let mut next = script.begin(line)?;

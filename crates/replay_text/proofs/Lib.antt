@@ -1,3 +1,4 @@
 pub mod TextLemmas
 pub mod Served
 pub mod WordsLemmas
+mod TellingLemmas

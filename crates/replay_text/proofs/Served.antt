@@ -14,8 +14,7 @@ use Rattle.peer_zone.specs.declared.state.PeerState.{PeerState}
 use Rattle.peer_zone.specs.declared.words.PeerWords.{PeerWords}
 use Rattle.peer_zone.specs.Lays as peer
 use Rattle.zone_config.specs.declared.data.ZoneSpec.{ZoneSpec}
-use Rattle.replay_share.specs.Asked.{IsAt}
-use Rattle.replay_share.specs.Logs.{ZoneLog}
+use Rattle.replay_share.specs.Logs.{ZoneLog, IsAt}
 use Rattle.replay_text.specs.ReplayText.{zone_text, zones_text}
 use Rattle.replay_text.proofs.TextLemmas.{text-more}
 

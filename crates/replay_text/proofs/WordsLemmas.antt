@@ -104,7 +104,7 @@ zone-begins (zone.Peer spec line) (req_log log) words rest is = absurd is.laid
 zone-begins (zone.Peer spec line) (conn_log log) words rest is = absurd is.laid
 
 -- nor do the texts of zones before something that doesn't
-zones-begin : (specs : List ZoneSpec) (logs : List ZoneLog) (images : List (List ℕ)) (rest : List ℕ) → AreImages specs logs images → BeginsNoWord rest → BeginsNoWord (zones_text_with_words specs logs images ++ rest)
+pub zones-begin : (specs : List ZoneSpec) (logs : List ZoneLog) (images : List (List ℕ)) (rest : List ℕ) → AreImages specs logs images → BeginsNoWord rest → BeginsNoWord (zones_text_with_words specs logs images ++ rest)
 zones-begin [] [] [] rest are quiet = quiet
 zones-begin (s ∷ ss) (l ∷ ls) (i ∷ is_) rest are quiet =
     subst (λ (t : List ℕ). BeginsNoWord t) (sym (append_assoc (zone_text_with_words s l i) (zones_text_with_words ss ls is_) rest)) (zone-begins s l i (zones_text_with_words ss ls is_ ++ rest) are.0)
@@ -114,7 +114,7 @@ zones-begin (s ∷ ss) [] images rest are quiet = absurd are
 zones-begin (s ∷ ss) (l ∷ ls) [] rest are quiet = absurd are
 
 -- the first zone's parts, before all that follows
-parts : (s : ZoneSpec) (l : ZoneLog) (i more rest : List ℕ) → zone_text_with_words s l i ++ more ++ rest ≡ zone_text s l ++ (image_text (zone_name s) i ++ (more ++ rest))
+pub parts : (s : ZoneSpec) (l : ZoneLog) (i more rest : List ℕ) → zone_text_with_words s l i ++ more ++ rest ≡ zone_text s l ++ (image_text (zone_name s) i ++ (more ++ rest))
 parts s l i more rest = append_assoc (zone_text_with_words s l i) more rest ∙ append_assoc (zone_text s l) (image_text (zone_name s) i) (more ++ rest)
 
 -- equal texts of the same zones and histories have the same images, and go on alike

@@ -1,3 +1,4 @@
 pub mod ReplayText
 pub mod After
 pub mod Images
+pub mod Telling

@@ -121,7 +121,7 @@ fn push_zone(
     spec: &ZoneSpec,
     zone: &ZoneJournal,
 ) -> Result<(), NoMemory>
-    requires { (room : ℕ) × IsJournalOf spec.now room zone.now }
+    requires { (room : ℕ) × IsJournalOf room spec.now zone.now }
     ensures { OnOk result (text.new.items ≡ text.old.items ++ zone_text spec.now (log_of zone.now)) }
 {
     match (spec, zone) {

@@ -61,7 +61,7 @@ fn push_words(
     spec: &ZoneSpec,
     zone: &ZoneJournal,
 ) -> Result<(), NoMemory>
-    requires { (room : ℕ) × IsJournalOf spec.now room zone.now }
+    requires { (room : ℕ) × IsJournalOf room spec.now zone.now }
     ensures { OnOk result (AddsWords (zone_name spec.now) (LaysAfter spec.now (log_of zone.now)) text.old.items text.new.items) }
 {
     match (spec, zone) {

@@ -1,7 +1,7 @@
 ghost use Rattle.std.specs.Prelude.{ℕ, ◌≡◌, ◌++◌, List, OnOk, map, slice_get};
 ghost use Rattle.zone_config.specs.Configuration.{zone_name};
-ghost use Rattle.replay_share.specs.Asked.{IsAt};
-ghost use Rattle.replay_workers.specs.Columns.{IsRunOf, log_of};
+ghost use Rattle.replay_share.specs.Logs.{IsAt};
+ghost use Rattle.replay_workers.specs.Columns.{IsRunOf, log_left};
 ghost use Rattle.replay_text.specs.ReplayText.{zone_text, zones_text};
 ghost use Rattle.replay_text.specs.Images.{AddsWords, LaysAfter, IsImageOf, AreImages, zone_text_with_words, zones_text_with_words};
 
@@ -20,7 +20,7 @@ fn push_history(
     left: &ZoneHistory,
 ) -> Result<(), NoMemory>
     requires { (workers : ℕ) × IsRunOf workers spec.now left.now }
-    ensures { OnOk result (text.new.items ≡ text.old.items ++ zone_text spec.now (log_of left.now)) }
+    ensures { OnOk result (text.new.items ≡ text.old.items ++ zone_text spec.now (log_left left.now)) }
 {
     match (spec, left) {
         (ZoneSpec::Req { spec, key: _ }, ZoneHistory::Req { zone, entries }) => {
@@ -44,7 +44,7 @@ fn push_words_left(
     left: &ZoneHistory,
 ) -> Result<(), NoMemory>
     requires { (workers : ℕ) × IsRunOf workers spec.now left.now }
-    ensures { OnOk result (AddsWords (zone_name spec.now) (LaysAfter spec.now (log_of left.now)) text.old.items text.new.items) }
+    ensures { OnOk result (AddsWords (zone_name spec.now) (LaysAfter spec.now (log_left left.now)) text.old.items text.new.items) }
 {
     match (spec, left) {
         (ZoneSpec::Req { spec, key: _ }, ZoneHistory::Req { zone, entries: _ }) => {
@@ -68,7 +68,7 @@ fn push_history_with_words(
     left: &ZoneHistory,
 ) -> Result<(), NoMemory>
     requires { (workers : ℕ) × IsRunOf workers spec.now left.now }
-    ensures { OnOk result ((words : List ℕ) × IsImageOf spec.now (log_of left.now) words × (text.new.items ≡ text.old.items ++ zone_text_with_words spec.now (log_of left.now) words)) }
+    ensures { OnOk result ((words : List ℕ) × IsImageOf spec.now (log_left left.now) words × (text.new.items ≡ text.old.items ++ zone_text_with_words spec.now (log_left left.now) words)) }
 {
     push_history(alloc, text, spec, left)?;
     push_words_left(alloc, text, spec, left)?;
@@ -84,7 +84,7 @@ pub fn push_histories(
     left: &[ZoneHistory],
 ) -> Result<(), NoMemory>
     requires { (workers : ℕ) × ((z : ℕ) → IsAt (IsRunOf workers) (slice_get specs.now z) (slice_get left.now z)) }
-    ensures { OnOk result (text.new.items ≡ text.old.items ++ zones_text specs.now (map log_of left.now)) }
+    ensures { OnOk result (text.new.items ≡ text.old.items ++ zones_text specs.now (map log_left left.now)) }
 {
     for (spec, zone) in specs.iter().zip(left) {
         push_history(alloc, text, spec, zone)?;
@@ -101,7 +101,7 @@ pub fn push_histories_with_words(
     left: &[ZoneHistory],
 ) -> Result<(), NoMemory>
     requires { (workers : ℕ) × ((z : ℕ) → IsAt (IsRunOf workers) (slice_get specs.now z) (slice_get left.now z)) }
-    ensures { OnOk result ((images : List (List ℕ)) × AreImages specs.now (map log_of left.now) images × (text.new.items ≡ text.old.items ++ zones_text_with_words specs.now (map log_of left.now) images)) }
+    ensures { OnOk result ((images : List (List ℕ)) × AreImages specs.now (map log_left left.now) images × (text.new.items ≡ text.old.items ++ zones_text_with_words specs.now (map log_left left.now) images)) }
 {
     for (spec, zone) in specs.iter().zip(left) {
         push_history_with_words(alloc, text, spec, zone)?;

@@ -7,6 +7,7 @@ use crate::{push_decisions, push_zones};
 use directive_text::read;
 use replay_log::{Line, read_log};
 use replay_share::{Journals, replay_share};
+use request_script::CALLS_A_LINE;
 use std::alloc::Global;
 use std::test::Fail;
 use zone_config::{Config, config_of};
@@ -58,7 +59,7 @@ fn printed(alloc: Global, config: &Config, lines: &[Line]) -> Result<Vec<u8>, Fa
     requires lines { All (IsLineOf (length config.now.locations)) lines.now }
     requires few { length lines.now ≤ 131072 }
 {
-    let room = lines.len() as u32 * 3;
+    let room = lines.len() as u32 * CALLS_A_LINE;
     let mut zones = Journals::open(alloc, config.zones.as_slice(), room)?;
     let decisions = replay_share(alloc, config, lines, 1, 0, &mut zones)?;
     let mut text = Vec::new(alloc);

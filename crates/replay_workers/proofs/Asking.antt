@@ -9,7 +9,7 @@ use Rattle.request_script.specs.declared.call.ZoneReply.{ZoneReply}
 use Rattle.request_script.specs.Turn.{Exchange}
 use Rattle.request_script.specs.Permitted.{zone_of}
 use Rattle.replay_share.specs.Calls.{CanAsk, IsReplyTo}
-use Rattle.replay_share.specs.Asked.{IsAt}
+use Rattle.replay_share.specs.Logs.{IsAt}
 use Rattle.replay_share.proofs.Serving.{Finds, finds, serves-after, can_at, at_set}
 use Rattle.replay_workers.specs.declared.passes.Shared.{Shared}
 use Rattle.replay_workers.specs.declared.passes.ZonePass.{ZonePass}

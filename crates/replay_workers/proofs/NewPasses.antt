@@ -27,7 +27,7 @@ use Rattle.replay_workers.specs.declared.passes.Shared.{Shared}
 use Rattle.replay_workers.specs.declared.passes.Shared.TheVariants as shared
 use Rattle.replay_workers.specs.declared.passes.ZonePass.{ZonePass}
 use Rattle.replay_workers.specs.declared.passes.ZonePass.TheVariants.{Req, Conn, Peer}
-use Rattle.replay_workers.specs.Columns.{IsNewPass, IsOpened, IsOpenedReq, IsOpenedConn, IsOpenedPeer}
+use Rattle.replay_workers.specs.Columns.{IsNewPass, IsOpenedZone, IsOpenedReq, IsOpenedConn, IsOpenedPeer}
 use Rattle.replay_workers.specs.Zones.{AreOpened}
 use Rattle.req_zone.specs.WordsLaws.{one_start-law as req_start}
 use Rattle.conn_zone.specs.Starting.{one_start-law as conn_start}
@@ -85,10 +85,10 @@ opened-none rooms zones columns no_zones no_columns = record {
   each = λ z spec zone column is. absurd (omega (arith, slice_get_within [] z spec is));
 }
 
-pub opened-more : (rooms : List ℕ) (specs : List ZoneSpec) (zones : List Shared) (columns : List (List ZonePass)) (spec : ZoneSpec) (zone : Shared) (column : List ZonePass) → AreOpened rooms specs zones columns → IsOpened rooms spec zone column
+pub opened-more : (rooms : List ℕ) (specs : List ZoneSpec) (zones : List Shared) (columns : List (List ZonePass)) (spec : ZoneSpec) (zone : Shared) (column : List ZonePass) → AreOpened rooms specs zones columns → IsOpenedZone rooms spec zone column
     → AreOpened rooms (specs ++ spec ∷ []) (zones ++ zone ∷ []) (columns ++ column ∷ [])
 opened-more rooms specs zones columns spec zone column h one =
-    let at : (z : ℕ) (s : ZoneSpec) (o : Shared) (c : List ZonePass) → (z < length specs) ⊎ (length specs ≤ z) → slice_get (specs ++ spec ∷ []) z ≡ Some s → slice_get (zones ++ zone ∷ []) z ≡ Some o → slice_get (columns ++ column ∷ []) z ≡ Some c → IsOpened rooms s o c = λ z s o c. elim [
+    let at : (z : ℕ) (s : ZoneSpec) (o : Shared) (c : List ZonePass) → (z < length specs) ⊎ (length specs ≤ z) → slice_get (specs ++ spec ∷ []) z ≡ Some s → slice_get (zones ++ zone ∷ []) z ≡ Some o → slice_get (columns ++ column ∷ []) z ≡ Some c → IsOpenedZone rooms s o c = λ z s o c. elim [
       | inl low ↦ λ s_is o_is c_is. h.each z s o c (sym (snoc_before specs spec z low) ∙ s_is) (sym (snoc_before zones zone z (omega (arith, low, h.zones_are))) ∙ o_is) (sym (snoc_before columns column z (omega (arith, low, h.columns_are))) ∙ c_is)
       | inr past ↦ λ s_is o_is c_is.
           let z_is : z ≡ length specs = omega (arith, past, slice_get_within (specs ++ spec ∷ []) z s s_is, length-append specs (spec ∷ [])) in
@@ -98,7 +98,7 @@ opened-more rooms specs zones columns spec zone column h one =
           let s_same : spec ≡ s = cc in
           let o_same : zone ≡ o = cc in
           let c_same : column ≡ c = cc in
-          subst (λ (x : ZoneSpec). IsOpened rooms x o c) s_same (subst (λ (y : Shared). IsOpened rooms spec y c) o_same (subst (λ (w : List ZonePass). IsOpened rooms spec zone w) c_same one))
+          subst (λ (x : ZoneSpec). IsOpenedZone rooms x o c) s_same (subst (λ (y : Shared). IsOpenedZone rooms spec y c) o_same (subst (λ (w : List ZonePass). IsOpenedZone rooms spec zone w) c_same one))
     ] in
     record {
       zones_are = omega (arith, h.zones_are, length-append zones (zone ∷ []), length-append specs (spec ∷ []));

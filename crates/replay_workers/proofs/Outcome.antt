@@ -13,8 +13,7 @@ use Rattle.replay_log.specs.declared.line.Line.{Line}
 use Rattle.request_script.specs.declared.decision.Decision.{Decision}
 use Rattle.request_script.specs.Turn.{Exchange}
 use Rattle.request_script.specs.Drive.{Table, nothing_active, Drives}
-use Rattle.replay_share.specs.Asked.{IsAt}
-use Rattle.replay_share.specs.Logs.{ZoneLog, IsLogOf, IsLogAt, HasPart, made_of}
+use Rattle.replay_share.specs.Logs.{ZoneLog, IsAt, IsLogOf, HasPart, made_of}
 use Rattle.replay_share.specs.Logs.ZoneLog.{req_log, conn_log, peer_log}
 use Rattle.replay_share.specs.Replay.{Decided, line_of, decision_of, lines_of, share_of, HasPlayed}
 use Rattle.replay_share.proofs.Alone.{pairs as decided_pairs}
@@ -25,7 +24,7 @@ use Rattle.replay_workers.specs.declared.passes.Played.{Played}
 use Rattle.replay_workers.specs.declared.history.ZoneHistory.{ZoneHistory}
 use Rattle.replay_workers.specs.declared.history.ZoneHistory.TheVariants as history
 use Rattle.replay_workers.specs.Passes.{Task, IsPassOf, IsSharedOf, IsFreshRow, HasWorked, AskedBy, place_of, seen_by, number_of_row, number_of_played, passes_of_row, passes_of_played}
-use Rattle.replay_workers.specs.Columns.{IsRunOf, HasOwn, IsClosed, CanClose, log_of}
+use Rattle.replay_workers.specs.Columns.{IsRunOf, HasOwn, IsClosed, CanClose, log_left}
 use Rattle.replay_workers.specs.Zones.{AreOpened, AreColumns, AreClosed, HasReplayedAll}
 use Rattle.replay_workers.specs.Merging.{pairs, IsMerged}
 use Rattle.replay_workers.specs.Transposing.{IsTransposed}
@@ -83,7 +82,7 @@ part_of_log asked k z (peer_log log) (conn_log seen) own_is part = elim own_is [
 
 -- ---- a zone that has run a history has a legal one
 
-log_of_run : (n : ℕ) (spec : ZoneSpec) (one : ZoneHistory) → IsRunOf n spec one → IsLogOf n spec (log_of one)
+log_of_run : (n : ℕ) (spec : ZoneSpec) (one : ZoneHistory) → IsRunOf n spec one → IsLogOf n spec (log_left one)
 log_of_run n (zone.Req spec key) (history.Req object entries) h = (h.0.history, h.1)
 log_of_run n (zone.Conn spec key) (history.Conn object entries) h = (h.0.history, h.1)
 log_of_run n (zone.Peer spec line) (history.Peer object entries) h = (h.0.history, h.1)
@@ -94,7 +93,7 @@ log_of_run n (zone.Conn spec key) (history.Peer object entries) h = elim h [ ]
 log_of_run n (zone.Peer spec line) (history.Req object entries) h = elim h [ ]
 log_of_run n (zone.Peer spec line) (history.Conn object entries) h = elim h [ ]
 
-log_at : (n : ℕ) (spec : Option ZoneSpec) (one : Option ZoneHistory) → IsAt (IsRunOf n) spec one → IsLogAt n spec (option_map log_of one)
+log_at : (n : ℕ) (spec : Option ZoneSpec) (one : Option ZoneHistory) → IsAt (IsRunOf n) spec one → IsAt (IsLogOf n) spec (option_map log_left one)
 log_at n None None h = tt
 log_at n (Some spec) (Some one) h = log_of_run n spec one h
 log_at n None (Some one) h = elim h [ ]
@@ -198,19 +197,19 @@ module _ (task : Task) (rows : List Row) (played : List Played) (worked : All (H
     decided = pairs task.lines merged
 
     logs : List ZoneLog
-    logs = map log_of left
+    logs = map log_left left
 
-    part_at : (k z : ℕ) (one : Played) (asked : List Exchange) → slice_get played k ≡ Some one → ((i : ℕ) → IfSome (slice_get (map seen_by one.passes.items) i) (HasPart asked k i)) → (z < length task.config.zones) ⊎ (length task.config.zones ≤ z) → IfSome (slice_get (map log_of left) z) (HasPart asked k z)
+    part_at : (k z : ℕ) (one : Played) (asked : List Exchange) → slice_get played k ≡ Some one → ((i : ℕ) → IfSome (slice_get (map seen_by one.passes.items) i) (HasPart asked k i)) → (z < length task.config.zones) ⊎ (length task.config.zones ≤ z) → IfSome (slice_get (map log_left left) z) (HasPart asked k z)
     part_at k z one asked is parts (inl low) =
         let l = left_at z low in
         let pass = there_at one.passes.items z (omega (arith, low, passes-long k one is)) in
         let row_is : slice_get (map passes_of_played played) k ≡ Some one.passes.items = slice_get-map passes_of_played played k ∙ ap (option_map passes_of_played) is in
         let in_column : slice_get l.column k ≡ Some pass.0 = sym (cell_in columns z k l.column l.column_is) ∙ transposed k z ∙ cell_in (map passes_of_played played) k z one.passes.items row_is ∙ pass.1 in
         let seen : HasPart asked k z (seen_by pass.0) = subst (λ (o : Option ZoneLog). IfSome o (HasPart asked k z)) (slice_get-map seen_by one.passes.items z ∙ ap (option_map seen_by) pass.1) (parts z) in
-        subst (λ (o : Option ZoneLog). IfSome o (HasPart asked k z)) (sym (slice_get-map log_of left z ∙ ap (option_map log_of) l.one_is)) (part_of_log asked k z (log_of l.one) (seen_by pass.0) (l.closed_is.each k pass.0 in_column) seen)
-    part_at k z one asked is parts (inr past) = subst (λ (o : Option ZoneLog). IfSome o (HasPart asked k z)) (sym (slice_get-map log_of left z ∙ ap (option_map log_of) (none_left z past))) tt
+        subst (λ (o : Option ZoneLog). IfSome o (HasPart asked k z)) (sym (slice_get-map log_left left z ∙ ap (option_map log_left) l.one_is)) (part_of_log asked k z (log_left l.one) (seen_by pass.0) (l.closed_is.each k pass.0 in_column) seen)
+    part_at k z one asked is parts (inr past) = subst (λ (o : Option ZoneLog). IfSome o (HasPart asked k z)) (sym (slice_get-map log_left left z ∙ ap (option_map log_left) (none_left z past))) tt
 
-    share_at : (k : ℕ) → k < task.workers → HasPlayed task.config (share_of task.workers k (pairs task.lines merged)) k (map log_of left)
+    share_at : (k : ℕ) → k < task.workers → HasPlayed task.config (share_of task.workers k (pairs task.lines merged)) k (map log_left left)
     share_at k low =
         let one = there_at played k (omega (arith, low, played-count, rows_count)) in
         let w = worked-at k one.0 one.1 in
@@ -232,7 +231,7 @@ module _ (task : Task) (rows : List Row) (played : List Played) (worked : All (H
       ran = ran;
       is_replay = record {
         lines_are = lines-back task.lines merged is_merged.each;
-        histories = λ z. subst (λ (o : Option ZoneLog). IsLogAt task.workers (slice_get task.config.zones z) o) (sym (slice_get-map log_of left z)) (log_at task.workers (slice_get task.config.zones z) (slice_get left z) (ran z));
+        histories = λ z. subst (λ (o : Option ZoneLog). IsAt (IsLogOf task.workers) (slice_get task.config.zones z) o) (sym (slice_get-map log_left left z)) (log_at task.workers (slice_get task.config.zones z) (slice_get left z) (ran z));
         shares = share_at;
       };
     }

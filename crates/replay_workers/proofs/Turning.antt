@@ -8,8 +8,7 @@ use Rattle.std.proofs.lemmas.Option.{slice_get-map, slice_get_within, slice_get_
 use Rattle.shared_zone.specs.Callers.{ZoneId}
 use Rattle.zone_config.specs.declared.data.ZoneSpec.{ZoneSpec}
 use Rattle.zone_config.specs.declared.data.ZoneSpec.TheVariants as zone
-use Rattle.replay_share.specs.Logs.{ZoneLog, HasPart, req_opened, conn_opened, peer_opened}
-use Rattle.replay_share.specs.Asked.{IsAt}
+use Rattle.replay_share.specs.Logs.{ZoneLog, IsAt, HasPart, req_opened, conn_opened, peer_opened}
 use Rattle.std.proofs.lemmas.List.{length-append, take-append-drop}
 use Rattle.replay_workers.specs.declared.passes.Row.{Row}
 use Rattle.replay_workers.specs.declared.passes.Shared.{Shared}

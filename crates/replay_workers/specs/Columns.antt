@@ -40,20 +40,20 @@ IsNewPass id rooms k (zone.Peer spec line) (Peer pass) = pass ≡ newcomer id (p
 IsNewPass id rooms k _ _ = ⊥
 
 -- a zone that has just been opened, with a pass for each worker
-pub record IsOpened (rooms : List ℕ) (spec : ZoneSpec) (zone : Shared) (column : List ZonePass) : Type 0 where
+pub record IsOpenedZone (rooms : List ℕ) (spec : ZoneSpec) (zone : Shared) (column : List ZonePass) : Type 0 where
   pub kind : IsSharedOf spec zone
   pub count : length column ≡ length rooms
   pub each : (k : ℕ) (pass : ZonePass) → slice_get column k ≡ Some pass → IsNewPass (id_of zone) rooms k spec pass
 
 -- and that of each kind of zone
 abbrev pub IsOpenedReq : List ℕ → ReqData → Shared → List ZonePass → Type 0
-IsOpenedReq rooms spec shared column = (key : Expr) → IsOpened rooms (zone.Req spec key) shared column
+IsOpenedReq rooms spec shared column = (key : Expr) → IsOpenedZone rooms (zone.Req spec key) shared column
 
 abbrev pub IsOpenedConn : List ℕ → ConnData → Shared → List ZonePass → Type 0
-IsOpenedConn rooms spec shared column = (key : Expr) → IsOpened rooms (zone.Conn spec key) shared column
+IsOpenedConn rooms spec shared column = (key : Expr) → IsOpenedZone rooms (zone.Conn spec key) shared column
 
 abbrev pub IsOpenedPeer : List ℕ → PeerData → Shared → List ZonePass → Type 0
-IsOpenedPeer rooms spec shared column = (line : ℕ) → IsOpened rooms (zone.Peer spec line) shared column
+IsOpenedPeer rooms spec shared column = (line : ℕ) → IsOpenedZone rooms (zone.Peer spec line) shared column
 
 -- ---- at the end
 
@@ -65,10 +65,10 @@ IsRunOf n (zone.Peer spec line) (history.Peer zone entries) = HasRun opening.IsO
 IsRunOf n _ _ = ⊥
 
 -- the history alone
-abbrev pub log_of : ZoneHistory → ZoneLog
-log_of (history.Req zone entries) = req_log entries.items
-log_of (history.Conn zone entries) = conn_log entries.items
-log_of (history.Peer zone entries) = peer_log entries.items
+abbrev pub log_left : ZoneHistory → ZoneLog
+log_left (history.Req zone entries) = req_log entries.items
+log_left (history.Conn zone entries) = conn_log entries.items
+log_left (history.Peer zone entries) = peer_log entries.items
 
 -- of worker k the history has just the calls that its pass has made
 abbrev pub HasOwn : ℕ → ZoneLog → ZoneLog → Type 0
@@ -105,4 +105,4 @@ pub record CanClose (zones : List Shared) (rooms : List ℕ) (z : ℕ) (spec : Z
 -- what a zone leaves that has been closed
 pub record IsClosed (rooms : List ℕ) (spec : ZoneSpec) (column : List ZonePass) (left : ZoneHistory) : Type 0 where
   pub ran : IsRunOf (length rooms) spec left
-  pub each : (k : ℕ) (pass : ZonePass) → slice_get column k ≡ Some pass → HasOwn k (log_of left) (seen_by pass)
+  pub each : (k : ℕ) (pass : ZonePass) → slice_get column k ≡ Some pass → HasOwn k (log_left left) (seen_by pass)

@@ -8,9 +8,9 @@ use Rattle.replay_log.specs.declared.line.Line.{Line}
 use Rattle.request_script.specs.declared.call.ZoneCall.{ZoneCall}
 use Rattle.request_script.specs.Turn.{Exchange}
 use Rattle.request_script.specs.Permitted.{zone_of}
-use Rattle.replay_share.specs.Logs.{ZoneLog, req_opened, conn_opened, peer_opened}
+use Rattle.replay_share.specs.Logs.{ZoneLog, IsAt, req_opened, conn_opened, peer_opened}
 use Rattle.replay_share.specs.Logs.ZoneLog.{req_log, conn_log, peer_log}
-use Rattle.replay_share.specs.Asked.{IsAt, HasAsked, HasTaken, MayTake}
+use Rattle.replay_share.specs.Asked.{HasAsked, HasTaken, MayTake}
 use Rattle.replay_share.specs.Replay.{lines_of}
 use Rattle.replay_share.specs.Share.{HasReplayed}
 use Rattle.replay_workers.specs.declared.passes.Shared.{Shared}

@@ -4,19 +4,19 @@ use Rattle.zone_config.specs.declared.data.Config.{Config}
 use Rattle.zone_config.specs.declared.data.ZoneSpec.{ZoneSpec}
 use Rattle.replay_log.specs.declared.line.Line.{Line}
 use Rattle.request_script.specs.declared.decision.Decision.{Decision}
-use Rattle.replay_share.specs.Asked.{IsAt}
+use Rattle.replay_share.specs.Logs.{IsAt}
 use Rattle.replay_share.specs.Replay.{Decided, decision_of, IsReplay}
 use Rattle.replay_workers.specs.declared.passes.Shared.{Shared}
 use Rattle.replay_workers.specs.declared.passes.ZonePass.{ZonePass}
 use Rattle.replay_workers.specs.declared.history.ZoneHistory.{ZoneHistory}
 use Rattle.replay_workers.specs.Passes.{IsSharedOf}
-use Rattle.replay_workers.specs.Columns.{IsOpened, AreAt, IsClosed, IsRunOf, log_of}
+use Rattle.replay_workers.specs.Columns.{IsOpenedZone, AreAt, IsClosed, IsRunOf, log_left}
 
 -- the zones have just been opened, each with a column of passes
 pub record AreOpened (rooms : List ℕ) (specs : List ZoneSpec) (zones : List Shared) (columns : List (List ZonePass)) : Type 0 where
   pub zones_are : length zones ≡ length specs
   pub columns_are : length columns ≡ length specs
-  pub each : (z : ℕ) (spec : ZoneSpec) (zone : Shared) (column : List ZonePass) → slice_get specs z ≡ Some spec → slice_get zones z ≡ Some zone → slice_get columns z ≡ Some column → IsOpened rooms spec zone column
+  pub each : (z : ℕ) (spec : ZoneSpec) (zone : Shared) (column : List ZonePass) → slice_get specs z ≡ Some spec → slice_get zones z ≡ Some zone → slice_get columns z ≡ Some column → IsOpenedZone rooms spec zone column
 
 -- the columns hold the passes of these zones
 pub record AreColumns (rooms : List ℕ) (specs : List ZoneSpec) (zones : List Shared) (columns : List (List ZonePass)) : Type 0 where
@@ -35,4 +35,4 @@ pub record HasReplayedAll (config : Config) (workers : ℕ) (lines : List Line) 
   pub decided : List Decided
   pub decisions_are : map decision_of decided ≡ decisions
   pub ran : (z : ℕ) → IsAt (IsRunOf workers) (slice_get config.zones z) (slice_get left z)
-  pub is_replay : IsReplay config workers lines decided (map log_of left)
+  pub is_replay : IsReplay config workers lines decided (map log_left left)

@@ -5,7 +5,7 @@ ghost use Rattle.zone_config.specs.declared.data.ConnData.{ConnData};
 ghost use Rattle.zone_config.specs.declared.data.PeerData.{PeerData};
 ghost use Rattle.zone_config.specs.Conditions.{AreZones, IsZoneSpec, HasOwnServers};
 ghost use Rattle.replay_share.specs.Opening.{IsNewReq, IsNewConn, IsNewPeer, refused_at, refused_line};
-ghost use Rattle.replay_workers.specs.Columns.{AreRooms, IsOpened, IsOpenedReq, IsOpenedConn, IsOpenedPeer};
+ghost use Rattle.replay_workers.specs.Columns.{AreRooms, IsOpenedZone, IsOpenedReq, IsOpenedConn, IsOpenedPeer};
 ghost use Rattle.replay_workers.specs.Zones.{AreOpened};
 
 use crate::passes::{Shared, ZonePass};
@@ -87,7 +87,7 @@ fn open_shared<R: Wait>(
     requires servers { HasOwnServers spec.now }
     requires opens { refused_at spec.now ≡ None }
     requires rooms { AreRooms rooms.now }
-    ensures { IfOk result (λ r. IsOpened rooms.now spec.now r.0 r.1.items) }
+    ensures { IfOk result (λ r. IsOpenedZone rooms.now spec.now r.0 r.1.items) }
 {
     match spec {
         ZoneSpec::Req { spec, key: _ } => share_req(rt, alloc, open_req(alloc, spec)?, rooms),

@@ -2,13 +2,11 @@ ghost use Rattle.std.specs.Prelude.{ℕ, ◌≡◌, ◌*◌, ◌<◌, ◌≤◌,
 ghost use Rattle.replay_share.specs.Replay.{lines_of};
 
 use replay_log::Line;
+use request_script::CALLS_A_LINE;
 use std::alloc::Global;
 use zone_outside::NoMemory;
 
-/// The calls that a line makes to one zone at most.
-const CALLS_A_LINE: u32 = 3;
-
-/// How many calls each worker may make to a zone: three for each of its lines.
+/// How many calls each worker may make to a zone: `CALLS_A_LINE` for each of its lines.
 pub(crate) fn rooms(alloc: Global, lines: &[Line], workers: u32) -> Result<Vec<u32>, NoMemory>
     requires some { 0 < workers }
     requires few { length lines.now ≤ 131072 }

@@ -20,7 +20,7 @@ mod zones;
 pub use active::{Active, Opened, Taken};
 pub use call::{ZoneCall, ZoneReply};
 pub use decision::{ConnStatus, Decision, Excess, Notice, Outcome, PeerAt, ReqStatus};
-pub use room::rooms;
+pub use room::{CALLS_A_LINE, rooms};
 pub use said::{Delay, Hold, ReqSaid};
 pub use script::{Next, Script};
 pub use zone_specs::{conn_spec, peer_spec, req_spec};

@@ -89,9 +89,6 @@ page_at-use_first page count pages here = page_at-fill_out Later (page + 1) (cou
 pub page_at-use_later : (page count : ℕ) (pages : List PageState) (q : ℕ) → page + count ≤ length pages → page < q → q < page + count → page_at (use_pages page count pages) q ≡ Later
 page_at-use_later page count pages q room low high = page_at-fill_in Later (page + 1) (count - 1) (set pages page (First count)) q (omega (arith, length-set pages page (First count))) (omega arith) (omega arith)
 
-pub length-use : (page count : ℕ) (pages : List PageState) → length (use_pages page count pages) ≡ length pages
-length-use page count pages = length-fill Later (page + 1) (count - 1) (set pages page (First count)) ∙ length-set pages page (First count)
-
 -- free pages become a used run
 pub HasUsedRuns-use : (total page count : ℕ) (pages : List PageState) → length pages ≡ total → 0 < count → page + count ≤ total → ((q : ℕ) → page ≤ q → q < page + count → page_at pages q ≡ Free) → HasUsedRuns total pages → HasUsedRuns total (use_pages page count pages)
 HasUsedRuns-use total page count pages long some room free runs = record {

@@ -162,14 +162,6 @@ pub page_total-give : (total : ℕ) (run : Run) (runs : List Run) → AreSound t
 unfolding others
 page_total-give total run runs sound = let h = page_total-others total run runs sound in omega arith
 
-pages_before-covered : (page at : ℕ) (runs : List Run) → at - pages_before at runs ≤ page → page < at → is_covered page runs ≡ true
-pages_before-covered page at [] low high = absurd (omega arith)
-pages_before-covered page at (run ∷ runs) low high = let ih = pages_before-covered page at runs in grind (arith, common_steps, ih)
-
-pages_from-covered : (page at : ℕ) (runs : List Run) → at ≤ page → page < at + pages_from at runs → is_covered page runs ≡ true
-pages_from-covered page at [] low high = absurd (omega arith)
-pages_from-covered page at (run ∷ runs) low high = let ih = pages_from-covered page at runs in grind (arith, common_steps, ih)
-
 -- a covered page is in a run that is not beside this one, or in one of the two that are
 covered_parts : (total page : ℕ) (run : Run) (runs : List Run) → AreSound total runs → is_covered page runs ≡ (is_covered page (others run runs) || (is_within page (run.first - pages_before run.first runs) (pages_before run.first runs) || is_within page (run.first + run.pages) (pages_from (run.first + run.pages) runs)))
 unfolding others

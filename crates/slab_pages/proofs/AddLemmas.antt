@@ -2,7 +2,7 @@
 use Rattle.std.proofs.Common.{ℕ, ◌≡◌, ◌≢◌, ◌⊎◌, ◌+◌, ◌/◌, ◌<◌, ◌≤◌, true, false, List, [], ◌∷◌, sym, subst, ◌∙◌, refl, arith, inl, inr}
 use Rattle.std.proofs.lemmas.Bool.{cases_lt}
 use Rattle.slab_model.specs.declared.runs.Run.{Run}
-use Rattle.slab_model.specs.Runs.{AreRunsApart, IsRunApart, AreSound, is_covered}
+use Rattle.slab_model.specs.Runs.{IsRunApart, AreSound, is_covered}
 use Rattle.slab_pages.specs.Places.{free_head, pfree_word, descriptor, next_at, prev_at, IsDescriptorOffset, KeepsOthers, is_run_word, descriptor_word, descriptor_page, free_word}
 use Rattle.slab_pages.specs.Layout.{LaysFrom}
 use Rattle.slab_pages.specs.Frames.{SameWords}
@@ -52,9 +52,6 @@ links_other old new a b page pa pb na nb h = record {
 pub first_node : (words : List ℕ) (count : ℕ) (runs : List Run) → AreSound count runs → LaysFrom words free_head runs → IsNode (next_at words free_head) runs
 first_node words count [] sound h = inl h
 first_node words count (y ∷ ys) sound h = inr (y.first, h.0, covered-first y ys y.first (omega arith) (omega (arith, sound.0)))
-
-apart_page : (run y : Run) (page : ℕ) → AreRunsApart run y → y.first ≤ page → page < y.first + y.pages → (page < run.first) ⊎ (run.first + run.pages ≤ page)
-apart_page run y page apart low high = elim apart [ inl l ↦ inr (omega (arith, l, low)) | inr g ↦ inl (omega (arith, g, high)) ]
 
 -- the runs follow the new one
 follow : (count : ℕ) (old mid next new : List ℕ) (run : Run) (runs : List Run) → 0 < run.pages → IsRunApart run runs → AreSound count runs → LaysFrom old free_head runs → BeginsRun old mid run → Links mid next (descriptor run.first) (next_at old free_head) → Links next new free_head (descriptor run.first) → LaysFrom new (descriptor run.first) runs

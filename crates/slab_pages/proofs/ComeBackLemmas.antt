@@ -92,9 +92,6 @@ page-back words slab page class indexes s l is below = record {
 pub run-may_put : (words : List ℕ) (slab : Slab) (page n : ℕ) → IsSound slab → LaysSlab words slab → page_at slab.pages page ≡ First n → MayPut (record { shape = slab.shape; words = words }) (record { first = page; pages = n })
 run-may_put words slab page n s l is = (slab.runs, l.runs, run-back words slab page n s l is)
 
-pub page-may_put : (words : List ℕ) (slab : Slab) (page class : ℕ) (indexes : List ℕ) → IsSound slab → LaysSlab words slab → page_at slab.pages page ≡ Class class indexes → page < pages_in slab → MayPut (record { shape = slab.shape; words = words }) (record { first = page; pages = 1 })
-page-may_put words slab page class indexes s l is below = (slab.runs, l.runs, page-back words slab page class indexes s l is below)
-
 -- and still does where other words change, as long as pages that aren't free keep the descriptor of one
 pub come_back-kept : (count : ℕ) (old new : List ℕ) (runs : List Run) (run : Run) → ((page : ℕ) → page < count → is_covered page runs ≡ false → IsBusy old page → IsBusy new page) → CanComeBack count old runs run → CanComeBack count new runs run
 come_back-kept count old new runs run same h = record {

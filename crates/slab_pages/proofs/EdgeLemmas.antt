@@ -5,7 +5,6 @@ use Rattle.std.proofs.lemmas.Bool.{cases_lt}
 use Rattle.slab_model.specs.declared.runs.Run.{Run}
 use Rattle.slab_model.specs.Runs.{is_covered, pages_from, pages_before}
 use Rattle.slab_pages.specs.Places.{free_head, descriptor, slab_at, next_at, prev_at, HasWords, page_limit, descriptor_word}
-use Rattle.slab_pages.specs.Layout.{IsBusy}
 use Rattle.slab_pages.specs.RunSteps.{Links, LaysList, SetsWords, FillsRun, Detaches, IsAfter, IsBefore, MarksUsed, start_at}
 use Rattle.slab_pages.proofs.PlaceLemmas.{descriptor-word, descriptor-zero, HasWords-kept}
 use Rattle.slab_pages.proofs.ListLemmas.{pages_from-within}
@@ -69,13 +68,6 @@ listed_first count words runs first h some = (
   elim (node_before count words runs first h some) [ inl e ↦ ap (λ x. x % 4) e | inr m ↦ ap (λ x. x % 4) m.1 ∙ descriptor-type m.0 ],
   λ zero. elim (node_after count words runs first h some) [ inl e ↦ omega (arith, e, zero) | inr m ↦ descriptor-zero m.0 (sym m.1 ∙ zero) ],
 )
-
--- a page that isn't free is no first page of a listed run
-pub busy_from : (count : ℕ) (words : List ℕ) (runs : List Run) (page : ℕ) → LaysList count words runs → IsBusy words page → pages_from page runs ≡ 0
-busy_from count words runs page h busy = elim (cases_lt 0 (pages_from page runs)) [
-  | inl some ↦ let f = listed_first count words runs page h some in absurd (elim busy [ inl t ↦ t f.0 | inr b ↦ f.1 b.0 ])
-  | inr none ↦ omega (arith, none)
-]
 
 pub after_within : (count : ℕ) (words : List ℕ) (runs : List Run) (page : ℕ) → LaysList count words runs → IsAfter count words runs page → page ≢ count → page < count
 after_within count words runs page h after ne = elim after [

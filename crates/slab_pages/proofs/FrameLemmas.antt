@@ -6,11 +6,11 @@ use Rattle.std.proofs.lemmas.Grind.{common_steps}
 use Rattle.slab_model.specs.declared.shape.Shape.{Shape}
 use Rattle.slab_model.specs.declared.runs.Run.{Run}
 use Rattle.slab_model.specs.declared.stat.Stat.{Stat}
-use Rattle.slab_model.specs.declared.page.PageState.TheVariants.{Free, Class}
-use Rattle.slab_model.specs.Geometry.{Kind, small, exact, big, kind_of, pages_of, IsInLimits, class_count}
+use Rattle.slab_model.specs.declared.page.PageState.TheVariants.{Free}
+use Rattle.slab_model.specs.Geometry.{Kind, small, exact, big, kind_of, pages_of, IsInLimits}
 use Rattle.zone_region.specs.Members.{In}
 use Rattle.slab_model.specs.Runs.{is_covered}
-use Rattle.slab_model.specs.State.{Slab, no_stat, page_at, classes_in, pages_in, list_of, stat_of}
+use Rattle.slab_model.specs.State.{Slab, no_stat, classes_in, pages_in, list_of, stat_of}
 use Rattle.slab_model.specs.Soundness.{IsSound, has_room}
 use Rattle.slab_model.proofs.ClassLemmas.{zone}
 use Rattle.slab_model.proofs.StateLemmas.{page_at-in}
@@ -18,14 +18,10 @@ use Rattle.slab_model.proofs.SoundLemmas.{class_page-in}
 use Rattle.slab_pages.specs.Places.{free_word, pfree_word, free_head, log_ctx_word, data_word, addr_word, head_word, stat_word, descriptor_word, class_head, page_word, bitmap_words, descriptor, slab_at, next_at, is_list_word}
 use Rattle.slab_pages.specs.Layout.{LaysRuns, HasUsedRun}
 use Rattle.slab_pages.specs.SlabLayout.{LaysHeader, LaysStat, LaysPages, LaysClass, LaysBits, LaysClassPage, LaysSlab}
-use Rattle.slab_pages.specs.Frames.{SameFrom, SameWords, SameLinks, ChangesFrom, ChangesDescriptor, ChangesStat, SameLaid}
+use Rattle.slab_pages.specs.Frames.{SameFrom, SameWords, SameLinks, ChangesFrom, ChangesStat, SameLaid}
 use Rattle.slab_pages.proofs.PlaceLemmas.{descriptor-word, HasWords-kept}
-use Rattle.slab_pages.proofs.WriteLemmas.{get-written, length-written}
 use Rattle.slab_pages.proofs.ListLemmas.{LaysFrom-kept}
 use Rattle.slab_pages.proofs.JoinLemmas.{covered-within}
-
-differ : true ≡ false → ⊥
-differ e = cc
 
 -- ---- places
 
@@ -143,17 +139,6 @@ LaysClassPage-kept old new shape page class used same map h = record {
 
 -- ---- words in a row that change
 
--- one word of them is set
-pub changes-set : (old new : List ℕ) (w v low high : ℕ) → new ≡ set old w v → low ≤ w → w < high → ChangesFrom old new low high
-changes-set old new w v low high is above below = record {
-  same_length = length-written old new w v is;
-  others = λ x apart. get-written old new w v x is (λ e. elim apart [ inl l ↦ omega (arith, l, e, above) | inr g ↦ omega (arith, g, e, below) ]);
-}
-
--- and then another
-pub changes-then : (old mid new : List ℕ) (low high : ℕ) → ChangesFrom old mid low high → ChangesFrom mid new low high → ChangesFrom old new low high
-changes-then old mid new low high h k = record { same_length = k.same_length ∙ h.same_length; others = λ w apart. k.others w apart ∙ h.others w apart }
-
 -- words on one side of them
 pub same-away : (old new : List ℕ) (low high a b : ℕ) → ChangesFrom old new low high → (high ≤ a) ⊎ (b ≤ low) → SameFrom old new a b
 same-away old new low high a b h apart = λ w x y. h.others w (elim apart [ inl l ↦ inr (omega (arith, l, x)) | inr g ↦ inl (omega (arith, g, y)) ])
@@ -174,45 +159,10 @@ LaysClass-away old new shape class pages low high h head apart =
     LaysClass-kept old new shape class pages (same-away old new low high (head_word class) (head_word class + 3) h head)
     (λ page m. same-links old new (descriptor page) (same-descriptor old new page (same-away old new low high (descriptor_word page) (descriptor_word page + 3) h (apart page m))))
 
-pub HasUsedRun-away : (old new : List ℕ) (page count low high : ℕ) → ChangesFrom old new low high → 0 < count → (high ≤ descriptor_word page) ⊎ (descriptor_word (page + count) ≤ low) → HasUsedRun old page count → HasUsedRun new page count
-HasUsedRun-away old new page count low high h some apart = HasUsedRun-kept old new page count some (λ other a b. same-descriptor old new other (same-away old new low high (descriptor_word other) (descriptor_word other + 3) h (elim apart [ inl l ↦ inl (omega (arith, l, a)) | inr g ↦ inr (omega (arith, g, b)) ])))
-
 pub LaysClassPage-away : (old new : List ℕ) (shape : Shape) (page class : ℕ) (used : List ℕ) (low high : ℕ) → ChangesFrom old new low high → (high ≤ descriptor_word page) ⊎ (descriptor_word page + 3 ≤ low) → (kind_of shape class ≡ small → (high ≤ page_word shape page) ⊎ (page_word shape page + bitmap_words shape class ≤ low)) → LaysClassPage old shape page class used → LaysClassPage new shape page class used
 LaysClassPage-away old new shape page class used low high h apart map =
     LaysClassPage-kept old new shape page class used (same-descriptor old new page (same-away old new low high (descriptor_word page) (descriptor_word page + 3) h apart))
     (λ is. same-away old new low high (page_word shape page) (page_word shape page + bitmap_words shape class) h (map is))
-
--- ---- one descriptor that changes
-
-descriptors-apart : (page other : ℕ) → other ≢ page → (descriptor_word page + 3 ≤ descriptor_word other) ⊎ (descriptor_word other + 3 ≤ descriptor_word page)
-descriptors-apart page other ne = elim (cases_lt page other) [ inl l ↦ inl (omega (arith, l)) | inr g ↦ inr (omega (arith, g, ne)) ]
-
-pub LaysHeader-descriptor : (shape : Shape) (old new : List ℕ) (page : ℕ) → ChangesDescriptor old new page → LaysHeader shape old → LaysHeader shape new
-LaysHeader-descriptor shape old new page h = LaysHeader-away shape old new (descriptor_word page) (descriptor_word page + 3) h (omega arith)
-
-pub LaysRuns-descriptor : (shape : Shape) (old new : List ℕ) (runs : List Run) (page : ℕ) → ChangesDescriptor old new page → is_covered page runs ≡ false → LaysRuns (record { shape = shape; words = old }) runs → LaysRuns (record { shape = shape; words = new }) runs
-LaysRuns-descriptor shape old new runs page h free = LaysRuns-away shape old new runs (descriptor_word page) (descriptor_word page + 3) h (omega arith) (λ other c. descriptors-apart page other (λ e. differ (sym c ∙ ap (λ k. is_covered k runs) e ∙ free)))
-
-pub LaysStat-descriptor : (shape : Shape) (old new : List ℕ) (class : ℕ) (stat : Stat) (page : ℕ) → ChangesDescriptor old new page → class < class_count shape → LaysStat old class stat → LaysStat new class stat
-LaysStat-descriptor shape old new class stat page h known = LaysStat-away old new class stat (descriptor_word page) (descriptor_word page + 3) h (inr (omega (arith, known)))
-
-pub LaysClass-descriptor : (old new : List ℕ) (shape : Shape) (class : ℕ) (pages : List ℕ) (page : ℕ) → ChangesDescriptor old new page → class < class_count shape → (In page pages → ⊥) → LaysClass old shape class pages → LaysClass new shape class pages
-LaysClass-descriptor old new shape class pages page h known out = LaysClass-away old new shape class pages (descriptor_word page) (descriptor_word page + 3) h (inr (omega (arith, known))) (λ other m. descriptors-apart page other (λ e. out (subst (λ (k : ℕ). In k pages) e m)))
-
-pub HasUsedRun-descriptor : (old new : List ℕ) (first count page : ℕ) → ChangesDescriptor old new page → 0 < count → (page < first) ⊎ (first + count ≤ page) → HasUsedRun old first count → HasUsedRun new first count
-HasUsedRun-descriptor old new first count page h some apart = HasUsedRun-away old new first count (descriptor_word page) (descriptor_word page + 3) h some (elim apart [ inl l ↦ inl (omega (arith, l)) | inr g ↦ inr (omega (arith, g)) ])
-
-pub LaysClassPage-descriptor : (old new : List ℕ) (shape : Shape) (other class : ℕ) (used : List ℕ) (page : ℕ) → IsInLimits shape → ChangesDescriptor old new page → page < pages_of shape → other ≢ page → LaysClassPage old shape other class used → LaysClassPage new shape other class used
-LaysClassPage-descriptor old new shape other class used page limits h below ne = LaysClassPage-away old new shape other class used (descriptor_word page) (descriptor_word page + 3) h (descriptors-apart page other ne) (λ _. inl (omega (arith, below, pages-behind shape other limits)))
-
--- a slab word that changes, as that of a page of 64 blocks or fewer with each grant and return: all links stay
-pub LaysClass-slab_word : (old new : List ℕ) (shape : Shape) (class : ℕ) (pages : List ℕ) (page : ℕ) → ChangesFrom old new (descriptor_word page) (descriptor_word page + 1) → class < class_count shape → LaysClass old shape class pages → LaysClass new shape class pages
-LaysClass-slab_word old new shape class pages page h known =
-    LaysClass-kept old new shape class pages (same-away old new (descriptor_word page) (descriptor_word page + 1) (head_word class) (head_word class + 3) h (inr (omega (arith, known))))
-    (λ q m. let at = descriptor-word q in record {
-      next = h.others (descriptor q / 8 + 1) (elim (cases_lt q page) [ inl l ↦ inl (omega (arith, l, at)) | inr g ↦ inr (omega (arith, g, at)) ]);
-      prev = h.others (descriptor q / 8 + 2) (elim (cases_lt q page) [ inl l ↦ inl (omega (arith, l, at)) | inr g ↦ inr (omega (arith, g, at)) ]);
-    })
 
 -- ---- the whole slab
 
@@ -221,10 +171,6 @@ pub listed-below : (slab : Slab) (class page : ℕ) → IsSound slab → class <
 listed-below slab class page sound known m = omega (arith, page_at-in slab.pages page (λ e. none slab.shape class (sym (ap (has_room slab.shape class) e) ∙ ((sound.lists class known).just page).0 m)), sound.page_count) where
   none : (shape : Shape) (class : ℕ) → has_room shape class Free ≡ true → ⊥
   none shape class h = cc
-
--- and so are the pages of a class
-pub class-below : (slab : Slab) (page class : ℕ) (used : List ℕ) → IsSound slab → page_at slab.pages page ≡ Class class used → page < pages_in slab
-class-below slab page class used sound is = class_page-in slab class page used sound is
 
 -- the slab stays laid out where all words that its layout speaks of stay
 pub LaysSlab-kept : (slab : Slab) (old new : List ℕ) → IsSound slab → SameLaid old new slab → LaysSlab old slab → LaysSlab new slab

@@ -1,5 +1,5 @@
 -- What `Pages::take` and `Pages::put` leave of a slab that is laid out.
-use Rattle.std.proofs.Common.{Bool, ℕ, ◌≡◌, ◌⊎◌, ◌+◌, ◌<◌, ◌≤◌, true, false, not, ◌&&◌, ◌||◌, List, length, refl, sym, ap, subst, arith, inl, inr, ◌∙◌, Some}
+use Rattle.std.proofs.Common.{ℕ, ◌≡◌, ◌⊎◌, ◌+◌, ◌<◌, ◌≤◌, true, false, not, ◌&&◌, ◌||◌, List, length, refl, sym, ap, subst, arith, inl, inr, ◌∙◌, Some}
 use Rattle.std.proofs.lemmas.Bool.{cases_eq, cases_lt}
 use Rattle.slab_model.specs.declared.shape.Shape.{Shape}
 use Rattle.slab_model.specs.declared.runs.Run.{Run}
@@ -16,7 +16,7 @@ use Rattle.slab_model.specs.Grant.{grant_run, use_pages}
 use Rattle.slab_model.specs.Return.{give_pages}
 use Rattle.slab_model.proofs.StateLemmas.{page_at-in}
 use Rattle.slab_model.proofs.PageLemmas.{Place, out, within, place_of, page_at-use_out, page_at-use_first, page_at-use_later, page_at-fill_in, page_at-fill_out}
-use Rattle.slab_model.proofs.RunLemmas.{first_fit-in, is_within-in, is_within-not, is_covered-take, is_covered-give}
+use Rattle.slab_model.proofs.RunLemmas.{first_fit-in, is_within-not, is_covered-give}
 use Rattle.slab_pages.specs.Places.{pfree_word, head_word, stat_word, descriptor_word, page_word, bitmap_words, descriptor, KeepsOthers, is_run_word}
 use Rattle.slab_pages.specs.Layout.{LaysRuns, HasUsedRun}
 use Rattle.slab_pages.specs.SlabLayout.{LaysHeader, LaysStat, LaysClass, LaysClassPage, LaysSlab}
@@ -75,17 +75,6 @@ run-used slab page count other sound is low high = elim (cases_eq other page) [
   | inl e ↦ ap (λ k. is_free (page_at slab.pages k)) e ∙ ap is_free is
   | inr ne ↦ ap is_free ((sound.used_runs.followed page count is).2 other (omega (arith, low, ne)) high)
 ]
-
--- a page that was taken is in no free run any more
-pub uncovered-take : (total n : ℕ) (runs : List Run) (first page : ℕ) → AreSound total runs → first_fit n runs ≡ Some first → first ≤ page → page < first + n → is_covered page (take_run n runs) ≡ false
-uncovered-take total n runs first page sound fit low high = is_covered-take total n runs first page sound fit ∙ ap (λ b. is_covered page runs && not b) (is_within-in page first n low high) ∙ never (is_covered page runs) where
-  never : (b : Bool) → (b && not true) ≡ false
-  never true = refl
-  never false = refl
-
--- nor is one that wasn't before
-pub uncovered-still : (total n : ℕ) (runs : List Run) (first page : ℕ) → AreSound total runs → first_fit n runs ≡ Some first → is_covered page runs ≡ false → is_covered page (take_run n runs) ≡ false
-uncovered-still total n runs first page sound fit free = is_covered-take total n runs first page sound fit ∙ ap (λ b. b && not (is_within page first n)) free
 
 -- ---- the whole slab
 

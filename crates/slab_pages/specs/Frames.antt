@@ -25,10 +25,6 @@ pub record ChangesFrom (old new : List ℕ) (low high : ℕ) : Type 0 where
   pub same_length : length new ≡ length old
   pub others : (w : ℕ) → (w < low) ⊎ (high ≤ w) → slice_index new w ≡ slice_index old w
 
--- only the descriptor of this page changed
-abbrev pub ChangesDescriptor : List ℕ → List ℕ → ℕ → Type 0
-ChangesDescriptor old new page = ChangesFrom old new (descriptor_word page) (descriptor_word page + 3)
-
 -- only the statistics of this class changed
 abbrev pub ChangesStat : List ℕ → List ℕ → ℕ → Type 0
 ChangesStat old new class = ChangesFrom old new (stat_word class) (stat_word class + 4)

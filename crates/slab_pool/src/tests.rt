@@ -15,7 +15,7 @@ fn small_pool(alloc: Global) -> Result<Pool, Fail> {
 }
 
 /// The words of a zone of 32,768 bytes that the tables below have in common: the header but for the page list,
-//// the heads of the classes, their statistics, the descriptors of the first three pages, and their bitmaps.
+/// the heads of the classes, their statistics, the descriptors of the first three pages, and their bitmaps.
 const SAME: [(u64, u64); 45] = [
     (2, 8),
     (3, 3),

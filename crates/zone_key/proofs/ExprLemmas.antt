@@ -104,19 +104,6 @@ braced-none bs n e z = rw (run-braced bs) (no_name is_name_byte braced_end bs (s
 pub braced-some : (bs : List ℕ) (n : ℕ) → n ≡ prefix_len is_name_byte bs → (n ≡ 0 → ⊥) → n ≤ length bs → variable_part (braced bs) ≡ after (variable (take n bs) ∷ []) (braced_end (drop n bs))
 braced-some bs n e some within = rw (run-braced bs) (name_front is_name_byte braced_end bs n e some within)
 
--- behind a `$`, but not a `{`, stands a bare name or none
-dollar-at : (b : ℕ) (bs : List ℕ) (t : Bool) → is_name_byte b ≡ t → (b == 123) ≡ false → dollar (b ∷ bs) ≡ variable_part (named (b ∷ bs))
-dollar-at b bs true e other = rw (other, e) refl
-dollar-at b bs false e other = rw (other, e) (sym (no_part (b == 36)))
-  where
-    no_part : (t : Bool) → variable_part (if t then ends (dollar bs) else ends (plain_part (kept b (plain bs)))) ≡ None
-    no_part true = refl
-    no_part false = refl
-
-pub dollar-bare : (bs : List ℕ) → (0 < length bs → get_or bs 0 0 ≡ 123 → ⊥) → dollar bs ≡ variable_part (named bs)
-dollar-bare [] other = refl
-dollar-bare (b ∷ bs) other = dollar-at b bs (is_name_byte b) refl (ne_eqb b 123 (other (omega arith)))
-
 -- plain text in front of other parts
 pub parts-plain : (bs : List ℕ) (n : ℕ) → 0 < length bs → (get_or bs 0 0 ≡ 36 → ⊥) → n ≡ prefix_len is_plain_byte bs → parts_of bs ≡ after (Plain (take n bs) ∷ []) (parts_of (drop n bs))
 parts-plain [] n some other e = absurd (omega arith)

@@ -7,6 +7,7 @@ ghost use Rattle.zone_key.specs.declared.expr.ExprFault.TheVariants.{NoMemory};
 
 use sqlite_items::Items;
 use std::alloc::{AllocError, AllocFailed, Global};
+use thiserror::Error;
 use zone_outside::Text;
 
 /// The most parts that a key expression has.
@@ -34,11 +35,13 @@ pub struct Expr {
 }
 
 /// Why a text gives no key expression.
-#[derive(Clone, Copy, Debug, PartialEq, Eq)]
+#[derive(Clone, Copy, Debug, PartialEq, Eq, Error)]
 pub enum ExprFault {
     /// It spells none: a `$` has no name behind it, or the text is empty, or there are more than 8 parts.
+    #[error("the text is no key expression")]
     BadKey,
     /// There was no memory for its parts.
+    #[error("no memory")]
     NoMemory,
 }
 

@@ -4,15 +4,14 @@
 mod crc;
 mod expr;
 mod key;
-mod laws;
 mod order;
+pub mod theorems;
 mod vars;
 mod word;
 
 pub use crc::crc32;
 pub use expr::{Expr, ExprFault, MAX_PARTS, Part, read_expr};
 pub use key::Key;
-pub use laws::{printed_reads_back, spelled_is_expr};
 pub use order::compare;
 pub use vars::{Pair, Vars, value};
 pub use word::word_of;

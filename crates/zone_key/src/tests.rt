@@ -112,12 +112,15 @@ fn gives_values(rt: HostRuntime) -> Result<(), Fail> {
         address: [10, 0, 255, 7],
         pairs,
     };
+    let mut rows = 0u64;
     for row in VALUES.split('|') {
         let (text, wanted) = row.split_once('~').ok_or("a row has `~`")?;
         let expr = read_expr(alloc, &Text::of(alloc, text.as_bytes())?)?;
         let key = value(alloc, &expr, &vars)?;
         assert_eq!(rt; key.bytes(), wanted.as_bytes(), "{text}");
+        rows = rows.saturating_add(1);
     }
+    assert_eq!(rt; rows, 8);
     let expr = read_expr(alloc, &Text::of(alloc, b"$binary_remote_addr")?)?;
     let key = value(alloc, &expr, &vars)?;
     assert_eq!(rt; key.bytes(), [10, 0, 255, 7].as_slice());

@@ -4,7 +4,6 @@ use Rattle.request_script.specs.declared.decision.ConnStatus.{ConnStatus}
 use Rattle.request_script.specs.declared.decision.ConnStatus.TheVariants as conn
 use Rattle.request_script.specs.declared.decision.Decision.{Decision}
 use Rattle.request_script.specs.declared.decision.Decision.TheVariants.{Started}
-use Rattle.request_script.specs.declared.decision.Notice.{Notice}
 use Rattle.request_script.specs.declared.decision.ReqStatus.{ReqStatus}
 use Rattle.request_script.specs.declared.decision.ReqStatus.TheVariants as req
 use Rattle.zone_watch.specs.declared.stay.Stay.TheVariants.{Keep}
@@ -36,18 +35,18 @@ raised_from zone decision [] = []
 raised_from zone decision (count ∷ counts) = counted_for zone decision count ∷ raised_from (zone + 1) decision counts
 
 -- `refused INDEX N` of a zone that refused requests, and nothing of one that refused none
-abbrev pub refused_line : ℕ → ℕ → List ℕ
-refused_line zone count = if nat_eq count 0 then [] else with_count (codes "refused ") zone ++ with_count (codes " ") count ++ codes "\n"
+abbrev pub refusals_line : ℕ → ℕ → List ℕ
+refusals_line zone count = if nat_eq count 0 then [] else with_count (codes "refused ") zone ++ with_count (codes " ") count ++ codes "\n"
 
 -- those of the zones from this one on
-abbrev pub refused_lines : ℕ → List ℕ → List ℕ
-refused_lines zone [] = []
-refused_lines zone (count ∷ counts) = refused_line zone count ++ refused_lines (zone + 1) counts
+abbrev pub refusals_lines : ℕ → List ℕ → List ℕ
+refusals_lines zone [] = []
+refusals_lines zone (count ∷ counts) = refusals_line zone count ++ refusals_lines (zone + 1) counts
 
 -- it counts, keeps, and reports a line of each zone that refused requests
 abbrev pub refused_rule : Rule
 refused_rule = record {
   after = λ counts notice. raised_from 0 notice.decision counts;
   answer = λ counts notice. Keep;
-  report = refused_lines 0;
+  report = refusals_lines 0;
 }

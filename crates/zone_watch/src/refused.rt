@@ -1,5 +1,5 @@
 ghost use Rattle.std.specs.Prelude.{◌≡◌, ◌++◌, OnOk, Option, replicate};
-ghost use Rattle.zone_watch.specs.RefusedCounts.{counted_for, is_conn_refused_by, is_refused_by, is_req_refused_by, raised_from, refused_line, refused_lines};
+ghost use Rattle.zone_watch.specs.RefusedCounts.{counted_for, is_conn_refused_by, is_refused_by, is_req_refused_by, raised_from, refusals_line, refusals_lines};
 
 use crate::counting::{one_more, push_count};
 use crate::stay::Stay;
@@ -66,7 +66,7 @@ fn raise(counts: &mut [u64], decision: &Decision)
 
 /// Adds `refused INDEX N` of a zone that refused requests, and nothing of one that refused none.
 fn push_refused(text: &mut Vec<u8>, zone: u64, count: u64) -> Result<(), AllocError>
-    ensures { OnOk result (text.new.items ≡ text.old.items ++ refused_line zone count) }
+    ensures { OnOk result (text.new.items ≡ text.old.items ++ refusals_line zone count) }
 {
     if count == 0 {
         return Ok(());
@@ -78,7 +78,7 @@ fn push_refused(text: &mut Vec<u8>, zone: u64, count: u64) -> Result<(), AllocEr
 
 /// Adds a line of each zone that refused requests.
 fn push_all_refused(text: &mut Vec<u8>, counts: &[u64]) -> Result<(), AllocError>
-    ensures { OnOk result (text.new.items ≡ text.old.items ++ refused_lines 0 counts.now) }
+    ensures { OnOk result (text.new.items ≡ text.old.items ++ refusals_lines 0 counts.now) }
 {
     for zone in 0..counts.len() {
         push_refused(text, zone as u64, counts[zone])?;
@@ -108,6 +108,16 @@ impl RefusedWatch {
         ensures { result ≡ replicate 16 0 }
     {
         RefusedWatch { counts: [0; ZONES] }
+    }
+}
+
+#[cfg(test)]
+impl RefusedWatch {
+    /// A watcher whose count of the last zone is as high as it gets.
+    pub(crate) fn full_of_last() -> RefusedWatch {
+        let mut counts = [0; ZONES];
+        counts[ZONES - 1] = u64::MAX;
+        RefusedWatch { counts }
     }
 }
 

@@ -8,7 +8,7 @@ use Rattle.replay_log.specs.declared.line.Line.{Line}
 use Rattle.request_script.specs.declared.decision.Decision.{Decision}
 use Rattle.request_script.specs.Drive.{nothing_active}
 use Rattle.replay_share.specs.declared.journal.ZoneJournal.{ZoneJournal}
-use Rattle.replay_share.specs.Journals.{HasJournal, Serves, log_of}
+use Rattle.replay_share.specs.Journals.{IsJournalOf, Serves, log_of}
 use Rattle.replay_share.specs.Share.{HasReplayed}
 use Rattle.replay_share.proofs.Alone.{pairs, plays_alone}
 use Rattle.replay_text.proofs.Served.{HaveEach, as-many}
@@ -49,10 +49,10 @@ zones-grow old text new specs journals i spec journal low_spec low_journal spec_
     (zones-push specs journals i spec journal low_spec low_journal spec_is journal_is))
 
 -- a text that has the lines of as many zones as there are has all
-pub zones-whole : (old text : List ℕ) (room : ℕ) (specs : List ZoneSpec) (journals : List ZoneJournal) (n : ℕ) → HaveEach (HasJournal room 0) specs journals → n ≡ min (length specs) (length journals)
+pub zones-whole : (old text : List ℕ) (room : ℕ) (specs : List ZoneSpec) (journals : List ZoneJournal) (n : ℕ) → HaveEach (IsJournalOf room) specs journals → n ≡ min (length specs) (length journals)
     → text ≡ old ++ zone_lines (take n specs) (map log_of (take n journals)) → text ≡ old ++ zone_lines specs (map log_of journals)
 zones-whole old text room specs journals n at n_is had =
-    let many = as-many (HasJournal room 0) specs journals at in
+    let many = as-many (IsJournalOf room) specs journals at in
     let all_specs : take n specs ≡ specs = ap (λ (k : ℕ). take k specs) (omega (arith, many, n_is)) ∙ take-length specs in
     let all_journals : take n journals ≡ journals = ap (λ (k : ℕ). take k journals) (omega (arith, many, n_is)) ∙ take-length journals in
     had ∙ ap (λ (x : List ZoneSpec). old ++ zone_lines x (map log_of (take n journals))) all_specs ∙ ap (λ (x : List ZoneJournal). old ++ zone_lines specs (map log_of x)) all_journals

@@ -1,7 +1,7 @@
 use Rattle.std.proofs.Common.{◌≡◌, ◌++◌, ℕ, length, map, take, subst, sym, append-nil}
 use Rattle.std.proofs.lemmas.List.{length_push}
 use Rattle.std.proofs.lemmas.Slice.Zip.{zip_turn, zip_end}
-use Rattle.replay_share.specs.Journals.{HasJournal, log_of}
+use Rattle.replay_share.specs.Journals.{IsJournalOf, log_of}
 use Rattle.replay_text.specs.ReplayText.{zones_text}
 use Rattle.replay_text.proofs.Served.{as-many, one-at, zones-grow, zones-whole}
 use Rattle.replay_text.proofs.histories.push_zones.Goals as goal
@@ -12,7 +12,7 @@ loop-spec-init c = sym (append-nil c.args.text.now.items)
 pub push_zone-requires : goal.push_zone-requires
 push_zone-requires c =
     let turn = zip_turn c.args.specs.now c.args.zones.now c.loop-spec.yielded c.into_iter-spec-iterator.result c.loop-spec.spec-iterator c.next.new.self c.next.result (cc) (cc) c.loop-spec.yielded_by (c.in-Some.spec, c.in-Some.journal) c.in-Some.is c.next.ensures.steps in
-    (c.requires.0, one-at (HasJournal c.requires.0 0) c.args.specs.now c.args.zones.now (length c.loop-spec.yielded) c.in-Some.spec.now c.in-Some.journal.now c.requires.2.each turn.0 turn.1 (turn.2 c.in-Some.spec.now) (turn.3 c.in-Some.journal.now))
+    (c.requires.0, one-at (IsJournalOf c.requires.0) c.args.specs.now c.args.zones.now (length c.loop-spec.yielded) c.in-Some.spec.now c.in-Some.journal.now c.requires.2.each turn.0 turn.1 (turn.2 c.in-Some.spec.now) (turn.3 c.in-Some.journal.now))
 
 pub loop-spec-preserved : goal.loop-spec-preserved
 loop-spec-preserved c =
@@ -24,4 +24,4 @@ loop-spec-preserved c =
 pub returns : goal.returns
 returns c room asked serves =
     let end = zip_end c.args.specs.now c.args.zones.now c.loop-spec.yielded c.into_iter-spec-iterator.result c.loop-spec.spec-iterator c.next.new.self c.next.result (cc) (cc) c.loop-spec.yielded_by c.in-None.is c.next.ensures.steps in
-    zones-whole log_of c.args.text.now.items c.loop-spec.text.items c.args.specs.now c.args.zones.now (length c.loop-spec.yielded) (as-many (HasJournal room 0) c.args.specs.now c.args.zones.now serves.each) end c.loop-spec.invariant
+    zones-whole log_of c.args.text.now.items c.loop-spec.text.items c.args.specs.now c.args.zones.now (length c.loop-spec.yielded) (as-many (IsJournalOf room) c.args.specs.now c.args.zones.now serves.each) end c.loop-spec.invariant

@@ -19,7 +19,7 @@ returns-in-Req-Req c =
     let before = c.args.text.now.items in
     let after = c.push_req_words.new.text.items in
     let log = c.in-Req-Req.journal.log in
-    let kept = subst (λ (j : ZoneJournal). IsJournalOf (zone.Req c.in-Req-Req.spec c.in-Req-Req.key-0) c.requires.0 j) c.in-Req-Req.is-1 (subst (λ (s : ZoneSpec). IsJournalOf s c.requires.0 c.args.zone.now) c.in-Req-Req.is-0 c.requires.1) in
+    let kept = subst (λ (j : ZoneJournal). IsJournalOf c.requires.0 (zone.Req c.in-Req-Req.spec c.in-Req-Req.key-0) j) c.in-Req-Req.is-1 (subst (λ (s : ZoneSpec). IsJournalOf c.requires.0 s c.args.zone.now) c.in-Req-Req.is-0 c.requires.1) in
     let laid = subst (λ (z : ReqWords). IsReqAfter c.in-Req-Req.spec log z) (sym c.object.ensures) kept.ran.laid in
     subst (λ (j : ZoneJournal). OnOk result (AddsWords (zone_name c.args.spec.now) (LaysAfter c.args.spec.now (log_of j)) before after)) (sym c.in-Req-Req.is-1)
     (subst (λ (s : ZoneSpec). OnOk result (AddsWords (zone_name s) (LaysAfter s (log_of (Req c.in-Req-Req.journal))) before after)) (sym c.in-Req-Req.is-0)
@@ -31,7 +31,7 @@ returns-in-Conn-Conn c =
     let before = c.args.text.now.items in
     let after = c.push_conn_words.new.text.items in
     let log = c.in-Conn-Conn.journal.log in
-    let kept = subst (λ (j : ZoneJournal). IsJournalOf (zone.Conn c.in-Conn-Conn.spec c.in-Conn-Conn.key-0) c.requires.0 j) c.in-Conn-Conn.is-1 (subst (λ (s : ZoneSpec). IsJournalOf s c.requires.0 c.args.zone.now) c.in-Conn-Conn.is-0 c.requires.1) in
+    let kept = subst (λ (j : ZoneJournal). IsJournalOf c.requires.0 (zone.Conn c.in-Conn-Conn.spec c.in-Conn-Conn.key-0) j) c.in-Conn-Conn.is-1 (subst (λ (s : ZoneSpec). IsJournalOf c.requires.0 s c.args.zone.now) c.in-Conn-Conn.is-0 c.requires.1) in
     let laid = subst (λ (z : Zone). IsConnAfter c.in-Conn-Conn.spec log z) (sym c.object-in-Conn-Conn.ensures) kept.ran.laid in
     subst (λ (j : ZoneJournal). OnOk result (AddsWords (zone_name c.args.spec.now) (LaysAfter c.args.spec.now (log_of j)) before after)) (sym c.in-Conn-Conn.is-1)
     (subst (λ (s : ZoneSpec). OnOk result (AddsWords (zone_name s) (LaysAfter s (log_of (Conn c.in-Conn-Conn.journal))) before after)) (sym c.in-Conn-Conn.is-0)
@@ -43,7 +43,7 @@ returns-in-Peer-Peer c =
     let before = c.args.text.now.items in
     let after = c.push_peer_words.new.text.items in
     let log = c.in-Peer-Peer.journal.log in
-    let kept = subst (λ (j : ZoneJournal). IsJournalOf (zone.Peer c.in-Peer-Peer.spec c.in-Peer-Peer.line-0) c.requires.0 j) c.in-Peer-Peer.is-1 (subst (λ (s : ZoneSpec). IsJournalOf s c.requires.0 c.args.zone.now) c.in-Peer-Peer.is-0 c.requires.1) in
+    let kept = subst (λ (j : ZoneJournal). IsJournalOf c.requires.0 (zone.Peer c.in-Peer-Peer.spec c.in-Peer-Peer.line-0) j) c.in-Peer-Peer.is-1 (subst (λ (s : ZoneSpec). IsJournalOf c.requires.0 s c.args.zone.now) c.in-Peer-Peer.is-0 c.requires.1) in
     let laid = subst (λ (z : PeerWords). IsPeerAfter c.in-Peer-Peer.spec log z) (sym c.object-in-Peer-Peer.ensures) kept.ran.laid in
     subst (λ (j : ZoneJournal). OnOk result (AddsWords (zone_name c.args.spec.now) (LaysAfter c.args.spec.now (log_of j)) before after)) (sym c.in-Peer-Peer.is-1)
     (subst (λ (s : ZoneSpec). OnOk result (AddsWords (zone_name s) (LaysAfter s (log_of (Peer c.in-Peer-Peer.journal))) before after)) (sym c.in-Peer-Peer.is-0)

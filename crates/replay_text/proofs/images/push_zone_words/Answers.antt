@@ -6,7 +6,7 @@ use Rattle.zone_outside.specs.declared.errors.NoMemory.{NoMemory}
 use Rattle.zone_config.specs.declared.data.ZoneSpec.{ZoneSpec}
 use Rattle.zone_config.specs.Configuration.{zone_name}
 use Rattle.replay_share.specs.declared.journal.ZoneJournal.{ZoneJournal}
-use Rattle.replay_share.specs.Journals.{HasJournal, log_of}
+use Rattle.replay_share.specs.Journals.{IsJournalOf, log_of}
 use Rattle.replay_share.specs.Logs.{ZoneLog}
 use Rattle.decision_text.specs.TailText.{image_text}
 use Rattle.replay_text.specs.Images.{AddsWords, LaysAfter, ShowsWords, ShowsWordsAt}
@@ -14,8 +14,8 @@ use Rattle.replay_text.proofs.Served.{HaveEach, as-many, one-at}
 use Rattle.replay_text.proofs.images.push_zone_words.Goals as goal
 
 -- a place among the zones is one among their journals
-below : (room : ℕ) (specs : List ZoneSpec) (journals : List ZoneJournal) (n : ℕ) → HaveEach (HasJournal room 0) specs journals → n < length specs → n < length journals
-below room specs journals n at low = let many = as-many (HasJournal room 0) specs journals at in omega (arith, many, low)
+below : (room : ℕ) (specs : List ZoneSpec) (journals : List ZoneJournal) (n : ℕ) → HaveEach (IsJournalOf room) specs journals → n < length specs → n < length journals
+below room specs journals n at low = let many = as-many (IsJournalOf room) specs journals at in omega (arith, many, low)
 
 -- words that were added at a place are those of the zone and the history that stand there
 shows : (specs : List ZoneSpec) (journals : List ZoneJournal) (n : ℕ) (spec : ZoneSpec) (journal : ZoneJournal) (old new : List ℕ) → n < length specs → n < length journals
@@ -44,7 +44,7 @@ push_words-requires c =
     let n = c.args.number in
     let journal = c.index-journals-number.result in (
       served.0,
-      one-at (HasJournal served.0 0) specs zones n c.index-specs-number.result journal served.2.each c.requires.there (below served.0 specs zones n served.2.each c.requires.there) c.index-specs-number.is
+      one-at (IsJournalOf served.0) specs zones n c.index-specs-number.result journal served.2.each c.requires.there (below served.0 specs zones n served.2.each c.requires.there) c.index-specs-number.is
           (c.index-journals-number.is ∙ ap (λ (js : List ZoneJournal). get_or js n journal) c.as_slice-journals.ensures),
     )
 

@@ -1,7 +1,7 @@
 use Rattle.std.proofs.Common.{◌++◌, refl}
 use Rattle.zone_config.specs.Configuration.{zone_name}
 use Rattle.decision_text.specs.TailText.{image_text}
-use Rattle.replay_workers.specs.Columns.{log_of}
+use Rattle.replay_workers.specs.Columns.{log_left}
 use Rattle.replay_text.specs.ReplayText.{zone_text}
 use Rattle.replay_text.proofs.TextLemmas.{text-more}
 use Rattle.replay_text.proofs.left.push_history_with_words.Goals as goal
@@ -9,7 +9,7 @@ use Rattle.replay_text.proofs.left.push_history_with_words.Goals as goal
 pub returns : goal.returns
 returns c =
     let spec = c.args.spec.now in
-    let log = log_of c.args.left.now in
+    let log = log_left c.args.left.now in
     let added = c.in_ok-push_words_left.ensures in (
       added.words,
       record { laid = added.laid; wide = added.wide; short = added.short },

@@ -1,5 +1,5 @@
 use Rattle.directive_text.proofs.Meaning.{either, one_tree, one_fault, not_both}
-use Rattle.directive_text.proofs.laws.texts_spell_or_fail.Goals as goal
+use Rattle.directive_text.proofs.theorems.texts_spell_or_fail.Goals as goal
 
 pub returns : goal.returns
 returns c = record {

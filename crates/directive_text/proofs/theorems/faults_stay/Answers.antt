@@ -1,5 +1,5 @@
 use Rattle.directive_text.proofs.Meaning.{stays}
-use Rattle.directive_text.proofs.laws.faults_stay.Goals as goal
+use Rattle.directive_text.proofs.theorems.faults_stay.Goals as goal
 
 pub returns : goal.returns
 returns c = stays
