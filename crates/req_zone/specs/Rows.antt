@@ -56,7 +56,7 @@ BusyRow = answers (one 1000 32768) (ask 0 0 ∷ ask 0 500 ∷ ask 0 1000 ∷ [])
 abbrev pub SlowRow : Type 0
 SlowRow = answers (one 16 32768) (ask 0 0 ∷ ask 0 60000 ∷ ask 0 62499 ∷ ask 0 62500 ∷ []) ≡ Pass 0 ∷ Busy 40 ∷ Busy 1 ∷ Pass 0 ∷ []
 
--- a clock that runs back by 30,000 ms, and then by 40,000 ms from a moment that was kept
+-- a clock that runs back by 30,000 ms, and then by 70,000 ms from the moment that was kept
 abbrev pub BackRow : Type 0
 BackRow = answers (one 1000 32768) (ask 5000 100000 ∷ ask 5000 70000 ∷ ask 5000 30000 ∷ ask 5000 30500 ∷ []) ≡ Pass 0 ∷ Pass 1000 ∷ Pass 1999 ∷ Pass 2499 ∷ []
 
