@@ -68,11 +68,7 @@ fn add_upstream<'a>(
 }
 
 /// Adds the place of a directive of this kind, if it is the server's or a location's.
-fn add_level<'a>(
-    levels: &mut Vec<Spot<'a>>,
-    kind: Kind,
-    place: &Spot<'a>,
-) -> Result<(), NoMemory>
+fn add_level<'a>(levels: &mut Vec<Spot<'a>>, kind: Kind, place: &Spot<'a>) -> Result<(), NoMemory>
     requires { kind ≡ kind_at (place_now place.now) }
     ensures { OnOk result (map place_now levels.new.items ≡ map place_now levels.old.items ++ option_to_list (if_level (place_now place.now))) }
 {
@@ -94,11 +90,7 @@ fn with_passed(passed: u64, kind: Kind, place: &Spot<'_>) -> u64
 }
 
 /// Adds a directive in its place.
-fn add_place<'a>(
-    alloc: Global,
-    outline: &mut Outline<'a>,
-    place: &Spot<'a>,
-) -> Result<(), NoMemory>
+fn add_place<'a>(alloc: Global, outline: &mut Outline<'a>, place: &Spot<'a>) -> Result<(), NoMemory>
     ensures zones { OnOk result (outline.new.zones ≡ outline.old.zones ++ option_to_list (zone_at (place_now place.now))) }
     ensures upstreams { OnOk result (map (λ d. d.now) outline.new.upstreams.items ≡ map (λ d. d.now) outline.old.upstreams.items ++ option_to_list (if_upstream (place_now place.now))) }
     ensures levels { OnOk result (map place_now outline.new.levels.items ≡ map place_now outline.old.levels.items ++ option_to_list (if_level (place_now place.now))) }

@@ -17,23 +17,23 @@ returns-in-Some c =
     record {
       zones = found.zones;
       upstreams = c.in_ok-upstreams.ensures
-      ∙ ap (λ (zs : List ZoneSpec). map (upstream_of zs) (map (λ d. d.now) c.deref.result.now)) c.as_slice.ensures
-      ∙ ap (λ ds. map (upstream_of zones) (map (λ d. d.now) ds)) c.deref.ensures.value
-      ∙ ap (map (upstream_of zones)) found.upstreams
-      ∙ outlined_upstreams zones places;
+          ∙ ap (λ (zs : List ZoneSpec). map (upstream_of zs) (map (λ d. d.now) c.deref.result.now)) c.as_slice.ensures
+          ∙ ap (λ ds. map (upstream_of zones) (map (λ d. d.now) ds)) c.deref.ensures.value
+          ∙ ap (map (upstream_of zones)) found.upstreams
+          ∙ outlined_upstreams zones places;
       server = sym (outlined_server zones upstreams places)
-      ∙ ap (server_among zones upstreams) (sym found.levels)
-      ∙ ap (λ ps. server_among zones upstreams (map place_now ps)) (sym c.deref-2.ensures.value)
-      ∙ ap (λ (us : List Upstream). server_among zones us (map place_now c.deref-2.result.now)) (sym c.as_slice-3.ensures)
-      ∙ ap (λ (zs : List ZoneSpec). server_among zs c.as_slice-3.result.now (map place_now c.deref-2.result.now)) (sym c.as_slice-2.ensures)
-      ∙ sym c.in_ok-server.ensures
-      ∙ c.in-Some.is;
+          ∙ ap (server_among zones upstreams) (sym found.levels)
+          ∙ ap (λ ps. server_among zones upstreams (map place_now ps)) (sym c.deref-2.ensures.value)
+          ∙ ap (λ (us : List Upstream). server_among zones us (map place_now c.deref-2.result.now)) (sym c.as_slice-3.ensures)
+          ∙ ap (λ (zs : List ZoneSpec). server_among zs c.as_slice-3.result.now (map place_now c.deref-2.result.now)) (sym c.as_slice-2.ensures)
+          ∙ sym c.in_ok-server.ensures
+          ∙ c.in-Some.is;
       locations = c.in_ok-locations.ensures
-      ∙ ap (λ (zs : List ZoneSpec). filter_map (location_at zs c.as_slice-5.result.now) (map place_now c.deref-3.result.now)) c.as_slice-4.ensures
-      ∙ ap (λ (us : List Upstream). filter_map (location_at zones us) (map place_now c.deref-3.result.now)) c.as_slice-5.ensures
-      ∙ ap (λ ps. filter_map (location_at zones upstreams) (map place_now ps)) c.deref-3.ensures.value
-      ∙ ap (filter_map (location_at zones upstreams)) found.levels
-      ∙ outlined_locations zones upstreams places;
+          ∙ ap (λ (zs : List ZoneSpec). filter_map (location_at zs c.as_slice-5.result.now) (map place_now c.deref-3.result.now)) c.as_slice-4.ensures
+          ∙ ap (λ (us : List Upstream). filter_map (location_at zones us) (map place_now c.deref-3.result.now)) c.as_slice-5.ensures
+          ∙ ap (λ ps. filter_map (location_at zones upstreams) (map place_now ps)) c.deref-3.ensures.value
+          ∙ ap (filter_map (location_at zones upstreams)) found.levels
+          ∙ outlined_locations zones upstreams places;
       passed = found.passed;
     }
 
