@@ -11,4 +11,5 @@ mod Serving
 mod Limiting
 mod Leveled
 mod Upstreams
+mod Outlined
 mod Answered

@@ -1,98 +1,56 @@
-ghost use Rattle.std.specs.Prelude.{◌≡◌, ◌++◌, IfOk, OnOk, MatchResult};
+ghost use Rattle.std.specs.Prelude.{◌≡◌, ◌++◌, IfOk, OnOk, MatchResult, map};
 ghost use Rattle.std.specs.Option.{option_to_list};
 ghost use Rattle.std.specs.List.{filter_map};
 ghost use Rattle.config_rules.specs.Places.{places_of};
-ghost use Rattle.zone_config.specs.Configuration.{Configures, location_at, passed_among, server_among, upstream_at, upstreams_of, zone_at, zones_of};
+ghost use Rattle.zone_config.specs.Configuration.{Configures, location_at, server_among, upstream_of};
 ghost use Rattle.zone_config.specs.Conditions.{IsConfig};
 ghost use Rattle.config_rules.specs.Answers.{ReadsFault};
 ghost use Rattle.zone_config.specs.Reading.{GivesConfig, IsWithoutServer};
 ghost use Rattle.config_rules.specs.Views.{place_now};
 
-use crate::build::{conn_zone, level_of, peer_zone, req_zone, upstream_of};
+use crate::build::{level_of, upstream_of};
 use crate::data::{Config, Level, Upstream, ZoneSpec};
+use crate::outline::{Outline, outline_of};
 use config_rules::place::kind_at;
-use config_rules::words::arguments_of;
-use config_rules::{ConfigFault, Kind, Spot, Walk, check_directives};
+use config_rules::{ConfigFault, Kind, Spot, check_directives};
 use directive_text::{Directive, Tree};
 use sqlite_items::Items;
 use std::alloc::Global;
 use zone_outside::NoMemory;
 
-/// Adds the zone that a directive declares.
-fn add_zone(alloc: Global, zones: &mut Items<ZoneSpec>, place: &Spot<'_>) -> Result<(), NoMemory>
-    ensures { OnOk result (zones.new ≡ zones.old ++ option_to_list (zone_at (place_now place.now))) }
-{
-    let words = arguments_of(place.directive);
-    match kind_at(place) {
-        Kind::ReqZone => zones.push(req_zone(alloc, words)?)?,
-        Kind::ConnZone => zones.push(conn_zone(alloc, words)?)?,
-        Kind::PeerZone => {
-            let line = place.directive.line;
-            zones.push(peer_zone(alloc, words, line, place.scope.block)?)?;
-        }
-        _ => {}
-    }
-    Ok(())
-}
-
-/// The zones, in the order of their directives.
-fn zones_of(alloc: Global, directives: &[Directive]) -> Result<Items<ZoneSpec>, NoMemory>
-    ensures { IfOk result (λ zones. zones ≡ zones_of (places_of directives.now)) }
-{
-    let mut zones = Items::new(alloc);
-    let mut walk = Walk::new(alloc, directives)?;
-    'places: while let Some(place) = walk.next()? {
-        add_zone(alloc, &mut zones, &place)?;
-    }
-    Ok(zones)
-}
-
-/// Adds the upstream that a directive declares.
-fn add_upstream(
-    alloc: Global,
-    zones: &[ZoneSpec],
-    upstreams: &mut Items<Upstream>,
-    place: &Spot<'_>,
-) -> Result<(), NoMemory>
-    ensures { OnOk result (upstreams.new ≡ upstreams.old ++ option_to_list (upstream_at zones.now (place_now place.now))) }
-{
-    if let Kind::Upstream = kind_at(place) {
-        upstreams.push(upstream_of(alloc, zones, place.directive)?)?;
-    }
-    Ok(())
-}
-
-/// The upstreams, in the order of their directives.
+/// The upstreams of these directives, in their order.
 fn upstreams_of(
     alloc: Global,
-    directives: &[Directive],
     zones: &[ZoneSpec],
+    directives: &[&Directive],
 ) -> Result<Items<Upstream>, NoMemory>
-    ensures { IfOk result (λ upstreams. upstreams ≡ upstreams_of zones.now (places_of directives.now)) }
+    ensures { IfOk result (λ upstreams. upstreams ≡ map (upstream_of zones.now) (map (λ d. d.now) directives.now)) }
 {
     let mut upstreams = Items::new(alloc);
-    let mut walk = Walk::new(alloc, directives)?;
-    'places: while let Some(place) = walk.next()? {
-        add_upstream(alloc, zones, &mut upstreams, &place)?;
+    let mut rest = directives;
+    'directives: while let [directive, later @ ..] = rest {
+        upstreams.push(upstream_of(alloc, zones, directive)?)?;
+        rest = later;
     }
     Ok(upstreams)
 }
 
-/// The level of the server, if there is one.
+/// The level of the server, if it is among these places.
 fn server_among(
     alloc: Global,
-    directives: &[Directive],
     zones: &[ZoneSpec],
     upstreams: &[Upstream],
+    places: &[Spot<'_>],
 ) -> Result<Option<Level>, NoMemory>
-    ensures { IfOk result (λ server. server ≡ server_among zones.now upstreams.now (places_of directives.now)) }
+    ensures { IfOk result (λ server. server ≡ server_among zones.now upstreams.now (map place_now places.now)) }
 {
-    let mut walk = Walk::new(alloc, directives)?;
-    'places: while let Some(place) = walk.next()? {
-        if let Kind::Server = kind_at(&place) {
-            let server = level_of(alloc, zones, upstreams, &place)?;
+    let mut rest = places;
+    'places: while let [place, later @ ..] = rest {
+        if let Kind::Server = kind_at(place) {
+            let server = level_of(alloc, zones, upstreams, place)?;
             return Ok(Some(server));
         }
+        rest = later;
     }
     Ok(None)
 }
@@ -113,35 +71,22 @@ fn add_location(
     Ok(())
 }
 
-/// The levels of the locations, in the order of their directives.
+/// The levels of the locations among these places, in their order.
 fn locations_of(
     alloc: Global,
-    directives: &[Directive],
     zones: &[ZoneSpec],
     upstreams: &[Upstream],
+    places: &[Spot<'_>],
 ) -> Result<Items<Level>, NoMemory>
-    ensures { IfOk result (λ levels. levels ≡ filter_map (location_at zones.now upstreams.now) (places_of directives.now)) }
+    ensures { IfOk result (λ levels. levels ≡ filter_map (location_at zones.now upstreams.now) (map place_now places.now)) }
 {
     let mut levels = Items::new(alloc);
-    let mut walk = Walk::new(alloc, directives)?;
-    'places: while let Some(place) = walk.next()? {
-        add_location(alloc, zones, upstreams, &mut levels, &place)?;
+    let mut rest = places;
+    'places: while let [place, later @ ..] = rest {
+        add_location(alloc, zones, upstreams, &mut levels, place)?;
+        rest = later;
     }
     Ok(levels)
-}
-
-/// How many directives are passed over.
-fn passed_over(alloc: Global, directives: &[Directive]) -> Result<u64, NoMemory>
-    ensures { IfOk result (λ passed. passed ≡ passed_among (places_of directives.now)) }
-{
-    let mut passed = 0u64;
-    let mut walk = Walk::new(alloc, directives)?;
-    'places: while let Some(place) = walk.next()? {
-        if let Kind::Unnamed = kind_at(&place) {
-            passed = passed.saturating_add(1);
-        }
-    }
-    Ok(passed)
 }
 
 /// The configuration of directives that break no rule.
@@ -149,11 +94,16 @@ fn configured(alloc: Global, directives: &[Directive]) -> Result<Config, ConfigF
     ensures { MatchResult result (λ config. Configures (places_of directives.now) config)
         (λ fault. IsWithoutServer fault (places_of directives.now)) }
 {
-    let zones = zones_of(alloc, directives)?;
-    let upstreams = upstreams_of(alloc, directives, zones.as_slice())?;
-    let server = server_among(alloc, directives, zones.as_slice(), upstreams.as_slice())?;
-    let locations = locations_of(alloc, directives, zones.as_slice(), upstreams.as_slice())?;
-    let passed = passed_over(alloc, directives)?;
+    let outline = outline_of(alloc, directives)?;
+    let Outline {
+        zones,
+        upstreams: named,
+        levels,
+        passed,
+    } = outline;
+    let upstreams = upstreams_of(alloc, zones.as_slice(), &named)?;
+    let server = server_among(alloc, zones.as_slice(), upstreams.as_slice(), &levels)?;
+    let locations = locations_of(alloc, zones.as_slice(), upstreams.as_slice(), &levels)?;
     match server {
         Some(server) => Ok(Config {
             zones,

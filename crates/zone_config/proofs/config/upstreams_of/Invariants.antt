@@ -1,11 +1,9 @@
-use Rattle.std.proofs.Common.{◌≡◌, ◌++◌, length}
-use Rattle.std.specs.List.{filter_map}
-use Rattle.config_rules.specs.Places.{places_of}
-use Rattle.zone_config.specs.Configuration.{upstream_at}
+use Rattle.std.proofs.Common.{◌≡◌, ◌++◌, length, map}
+use Rattle.zone_config.specs.Configuration.{upstream_of}
 use Rattle.zone_config.proofs.config.upstreams_of.Given as goal
 
-abbrev pub invariant-places : goal.invariant-places
-invariant-places l = filter_map (upstream_at l.zones) (places_of l.directives) ≡ l.upstreams ++ filter_map (upstream_at l.zones) l.walk
+abbrev pub invariant-directives : goal.invariant-directives
+invariant-directives l = map (upstream_of l.zones) (map (λ d. d.now) l.directives) ≡ l.upstreams ++ map (upstream_of l.zones) (map (λ d. d.now) l.rest)
 
-abbrev pub decreases-places : goal.decreases-places
-decreases-places l = length l.walk
+abbrev pub decreases-directives : goal.decreases-directives
+decreases-directives l = length l.rest
