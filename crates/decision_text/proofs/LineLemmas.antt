@@ -118,8 +118,15 @@ check-is : (key : List ℕ) (now burst d : ℕ) (x : List ℕ) → IsBytes key �
 check-is key now burst d x are early small high =
     let third : List ℕ = decimal burst ++ 32 ∷ d ∷ 32 ∷ x in
     let second : List ℕ = decimal now ++ 32 ∷ third in
-    rw (bytes-are key 32 second are (omega arith), behind-bytes key 32 second are (omega arith), number-is now 32 third early (omega arith), behind-number now 32 third early (omega arith),
-      number-is burst 32 (d ∷ 32 ∷ x) small (omega arith), behind-number burst 32 (d ∷ 32 ∷ x) small (omega arith), behind-is (d ∷ []) 32 x (high, tt) (omega arith)) refl
+    rw (
+      bytes-are key 32 second are (omega arith),
+      behind-bytes key 32 second are (omega arith),
+      number-is now 32 third early (omega arith),
+      behind-number now 32 third early (omega arith),
+      number-is burst 32 (d ∷ 32 ∷ x) small (omega arith),
+      behind-number burst 32 (d ∷ 32 ∷ x) small (omega arith),
+      behind-is (d ∷ []) 32 x (high, tt) (omega arith),
+    ) refl
 
 req-call-is : (c : ReqCall) (x : List ℕ) → HasReqNumbers c → req_call_in (req_call_words c ++ 32 ∷ x) ≡ (c, x)
 req-call-is (Account at now) x is =
@@ -226,8 +233,15 @@ free-is list index now d word x first small early is =
     let fourth : List ℕ = decimal now ++ 32 ∷ x in
     let third : List ℕ = d ∷ word ++ 32 ∷ fourth in
     let second : List ℕ = decimal index ++ 32 ∷ third in
-    rw (number-is list 32 second first (omega arith), behind-number list 32 second first (omega arith), number-is index 32 third small (omega arith), behind-number index 32 third small (omega arith),
-      behind-is (d ∷ word) 32 fourth is (omega arith), number-is now 32 x early (omega arith), behind-number now 32 x early (omega arith)) refl
+    rw (
+      number-is list 32 second first (omega arith),
+      behind-number list 32 second first (omega arith),
+      number-is index 32 third small (omega arith),
+      behind-number index 32 third small (omega arith),
+      behind-is (d ∷ word) 32 fourth is (omega arith),
+      number-is now 32 x early (omega arith),
+      behind-number now 32 x early (omega arith),
+    ) refl
 
 peer-call-is : (c : PeerCall) (x : List ℕ) → HasPeerNumbers c → peer_call_in (peer_call_words c ++ 32 ∷ x) ≡ (c, x)
 peer-call-is (Choose list tried now) x is =
