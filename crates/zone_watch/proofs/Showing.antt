@@ -1,9 +1,9 @@
 -- A list of which the watchers that stay are moved to the front, one place after another.
-use Rattle.std.proofs.Common.{ℕ, zero, suc, ◌≡◌, ◌+◌, ◌<◌, ◌≤◌, ◌⊎◌, inl, inr, List, [], ◌∷◌, ◌++◌, length, map, take, drop, get_or, subst, sym, ap, refl, add-one, ◌∙◌, arith, append-nil}
+use Rattle.std.proofs.Common.{ℕ, suc, ◌≡◌, ◌+◌, ◌<◌, ◌≤◌, ◌⊎◌, inl, inr, List, [], ◌∷◌, ◌++◌, length, map, take, drop, get_or, subst, sym, ap, refl, add-one, ◌∙◌, arith, append-nil}
 use Rattle.std.specs.Prelude.{Option, Some, None, slice_set, option_and_then}
 use Rattle.std.specs.List.{cons_option, filter_map, swap}
 use Rattle.std.proofs.Math.Seq.{take-suc, take-suc-set, take-append_seam}
-use Rattle.std.proofs.lemmas.List.{map-append, take-set-le, drop-set-lt, get_or-set_same, length-set, set-get_or, drop_more, get_or-drop, take_more, get_or_default}
+use Rattle.std.proofs.lemmas.List.{map-append, take-set-le, drop-set-lt, get_or-set_same, length-set, set-get_or, drop_more, get_or-drop}
 use Rattle.std.proofs.lemmas.List.Edits.{swap_is}
 use Rattle.std.proofs.lemmas.List.Elements.{filter_map-append}
 use Rattle.request_script.specs.declared.decision.Notice.{Notice}

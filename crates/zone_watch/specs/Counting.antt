@@ -1,5 +1,5 @@
 -- Counts, and how they are printed.
-use Rattle.std.specs.Prelude.{ℕ, ◌+◌, ◌-◌, ◌^◌, min, List, [], ◌∷◌, ◌++◌, decimal}
+use Rattle.std.specs.Prelude.{ℕ, ◌+◌, ◌-◌, ◌^◌, min, List, ◌++◌, decimal}
 
 -- a count that stands still at the last number of 64 bits
 abbrev pub one_more : ℕ → ℕ

@@ -3,3 +3,4 @@ pub mod Counting
 pub mod StatusCounts
 pub mod RefusedCounts
 pub mod Notices
+pub mod Telling

@@ -4,7 +4,6 @@ use Rattle.request_script.specs.declared.decision.ConnStatus.{ConnStatus}
 use Rattle.request_script.specs.declared.decision.ConnStatus.TheVariants as conn
 use Rattle.request_script.specs.declared.decision.Decision.{Decision}
 use Rattle.request_script.specs.declared.decision.Decision.TheVariants.{Started}
-use Rattle.request_script.specs.declared.decision.Notice.{Notice}
 use Rattle.request_script.specs.declared.decision.ReqStatus.{ReqStatus}
 use Rattle.request_script.specs.declared.decision.ReqStatus.TheVariants as req
 use Rattle.zone_watch.specs.declared.stay.Stay.TheVariants.{Keep}

@@ -2,7 +2,6 @@
 use Rattle.std.specs.Prelude.{ℕ, zero, suc, List, [], ◌∷◌, ◌++◌, codes}
 use Rattle.request_script.specs.declared.decision.Decision.{Decision}
 use Rattle.request_script.specs.declared.decision.Decision.TheVariants.{Started, Busy, NextPeer, FailGateway, Ended, IdleFail, IdleDone}
-use Rattle.request_script.specs.declared.decision.Notice.{Notice}
 use Rattle.request_script.specs.declared.decision.Outcome.{Outcome}
 use Rattle.request_script.specs.declared.decision.Outcome.TheVariants.{Pass, Limited, Gateway}
 use Rattle.zone_watch.specs.declared.stay.Stay.TheVariants.{Keep}

@@ -111,6 +111,16 @@ impl RefusedWatch {
     }
 }
 
+#[cfg(test)]
+impl RefusedWatch {
+    /// A watcher whose count of the last zone is as high as it gets.
+    pub(crate) fn full_of_last() -> RefusedWatch {
+        let mut counts = [0; ZONES];
+        counts[ZONES - 1] = u64::MAX;
+        RefusedWatch { counts }
+    }
+}
+
 impl Watcher for RefusedWatch {
     ghost use Rattle.zone_watch.specs.RefusedCounts.{refused_rule};
 

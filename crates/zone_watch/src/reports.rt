@@ -6,19 +6,15 @@ use std::alloc::Global;
 use zone_outside::{NoMemory, Text};
 
 /// The report of one watcher.
-fn report(alloc: Global, watcher: &Box<dyn Watcher>) -> Result<Text, NoMemory>
-    ensures { IfOk result (λ text. text ≡ report_of (watched watcher.now)) }
+fn report<W: Watcher>(alloc: Global, watcher: &W) -> Result<Text, NoMemory>
+    ensures { IfOk result (λ text. text ≡ report_of (W.watched watcher.now)) }
 {
     watcher.report(alloc)
 }
 
 /// Adds the report of one watcher.
-fn push_report(
-    alloc: Global,
-    text: &mut Vec<u8>,
-    watcher: &Box<dyn Watcher>,
-) -> Result<(), NoMemory>
-    ensures { OnOk result (text.new.items ≡ text.old.items ++ report_of (watched watcher.now)) }
+fn push_report<W: Watcher>(alloc: Global, text: &mut Vec<u8>, watcher: &W) -> Result<(), NoMemory>
+    ensures { OnOk result (text.new.items ≡ text.old.items ++ report_of (W.watched watcher.now)) }
 {
     let told = report(alloc, watcher)?;
     text.extend_from_slice(told.bytes())?;
@@ -26,12 +22,12 @@ fn push_report(
 }
 
 /// Adds the reports of the watchers, in their order. `NoMemory`: there was none for a report or for the text.
-pub fn push_reports(
+pub fn push_reports<W: Watcher>(
     alloc: Global,
     text: &mut Vec<u8>,
-    list: &[Box<dyn Watcher>],
+    list: &[W],
 ) -> Result<(), NoMemory>
-    ensures { OnOk result (text.new.items ≡ text.old.items ++ reports_of (map (λ b. watched b) list.now)) }
+    ensures { OnOk result (text.new.items ≡ text.old.items ++ reports_of (map W.watched list.now)) }
 {
     for watcher in list {
         push_report(alloc, text, watcher)?;

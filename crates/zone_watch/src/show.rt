@@ -7,16 +7,16 @@ use crate::watcher::Watcher;
 use request_script::Notice;
 
 /// Shows a notice to one watcher.
-fn show(watcher: &mut Box<dyn Watcher>, notice: &Notice) -> Stay
-    ensures seen { watched watcher.new ≡ sees (watched watcher.old) notice.now }
-    ensures answered { result ≡ answers (watched watcher.old) notice.now }
+fn show<W: Watcher>(watcher: &mut W, notice: &Notice) -> Stay
+    ensures seen { W.watched watcher.new ≡ sees (W.watched watcher.old) notice.now }
+    ensures answered { result ≡ answers (W.watched watcher.old) notice.now }
 {
     watcher.see(notice)
 }
 
 /// Shows a notice to each watcher, in their order, and moves those that stay to the front. How many they are.
-fn show_each(list: &mut [Box<dyn Watcher>], notice: &Notice) -> usize
-    ensures stayed { map (λ b. watched b) (take result list.new) ≡ filter_map (left_after notice.now) (map (λ b. watched b) list.old) }
+fn show_each<W: Watcher>(list: &mut [W], notice: &Notice) -> usize
+    ensures stayed { map W.watched (take result list.new) ≡ filter_map (left_after notice.now) (map W.watched list.old) }
     ensures within { result ≤ length list.old }
 {
     let mut kept = 0;
@@ -33,8 +33,8 @@ fn show_each(list: &mut [Box<dyn Watcher>], notice: &Notice) -> usize
 }
 
 /// Shows a notice to each watcher, and drops those that leave.
-fn show_notice(list: &mut Vec<Box<dyn Watcher>>, notice: &Notice)
-    ensures { map (λ b. watched b) list.new.items ≡ filter_map (left_after notice.now) (map (λ b. watched b) list.old.items) }
+fn show_notice<W: Watcher>(list: &mut Vec<W>, notice: &Notice)
+    ensures { map W.watched list.new.items ≡ filter_map (left_after notice.now) (map W.watched list.old.items) }
 {
     let kept = show_each(list, notice);
     list.truncate(kept);
@@ -43,8 +43,8 @@ fn show_notice(list: &mut Vec<Box<dyn Watcher>>, notice: &Notice)
 /// Shows each notice, in order, to each watcher that is still in the list. A watcher that answers `Leave` is taken out and
 /// dropped, and is shown no more. Those that are left stand in the order in which they stood. It takes no memory, and time
 /// linear in the notices that are shown.
-pub fn show_all(list: &mut Vec<Box<dyn Watcher>>, notices: &[Notice])
-    ensures { map (λ b. watched b) list.new.items ≡ shown notices.now (map (λ b. watched b) list.old.items) }
+pub fn show_all<W: Watcher>(list: &mut Vec<W>, notices: &[Notice])
+    ensures { map W.watched list.new.items ≡ shown notices.now (map W.watched list.old.items) }
 {
     for notice in notices {
         show_notice(list, notice);

@@ -47,6 +47,16 @@ impl StatusWatch {
     }
 }
 
+#[cfg(test)]
+impl StatusWatch {
+    /// A watcher whose count of refused opens is as high as it gets.
+    pub(crate) fn full_of_limited() -> StatusWatch {
+        let mut watch = StatusWatch::new();
+        watch.limited = u64::MAX;
+        watch
+    }
+}
+
 impl Watcher for StatusWatch {
     ghost use Rattle.zone_watch.specs.StatusCounts.{status_rule};
 

@@ -1,8 +1,11 @@
 use crate::counting::push_count;
-use crate::{RefusedWatch, StatusWatch, Stay, Watcher, notices_of, push_reports, show_all};
+use crate::{
+    RefusedWatch, StatusWatch, Stay, Watcher, notices_of, push_reports, show_all, show_and_report,
+};
 use replay_log::{Event, Line};
 use request_script::{ConnStatus, Decision, Excess, Notice, Outcome, PeerAt, ReqStatus};
 use std::alloc::Global;
+use std::cell::Cell;
 use std::test::Fail;
 use zone_outside::{NoMemory, Text};
 
@@ -44,6 +47,26 @@ impl Watcher for Patient {
         let mut text = Vec::new(alloc);
         push_count(&mut text, b"seen ", self.seen)?;
         Ok(Text::from_vec(text))
+    }
+}
+
+/// A watcher that also tells a cell how many notices it was shown, which stands when the watcher is dropped.
+#[derive(Drop)]
+struct Counted<'a> {
+    patient: Patient,
+    shown: &'a Cell<u64>,
+}
+
+impl<'a> Watcher for Counted<'a> {
+    ghost watched = { λ w. ⟦<Patient as Watcher>⟧.watched w.patient };
+
+    fn see(&mut self, notice: &Notice) -> Stay {
+        self.shown.set(self.shown.get().saturating_add(1));
+        self.patient.see(notice)
+    }
+
+    fn report(&self, alloc: Global) -> Result<Text, NoMemory> {
+        self.patient.report(alloc)
     }
 }
 
@@ -156,6 +179,15 @@ fn tells_each_decision(rt: HostRuntime) -> Result<(), Fail> {
     push(
         &mut notices,
         open(
+            limited,
+            ReqStatus::Unset,
+            None,
+            ConnStatus::Rejected { zone: u32::MAX },
+        ),
+    )?;
+    push(
+        &mut notices,
+        open(
             Outcome::Pass,
             ReqStatus::RejectedDry,
             Some(0),
@@ -178,18 +210,48 @@ fn tells_each_decision(rt: HostRuntime) -> Result<(), Fail> {
     let text = reports(alloc, &notices)?;
     assert_eq!(rt;
         text.as_slice(),
-        b"status pass=1 limited=4 gateway=2 busy=1 next=0 ended=0 idle=2\nrefused 1 2\nrefused 15 1\n".as_slice()
+        b"status pass=1 limited=5 gateway=2 busy=1 next=0 ended=0 idle=2\nrefused 1 2\nrefused 15 1\n".as_slice()
     );
     Ok(())
 }
 
-/// The first watcher leaves at its second notice; the second stays and sees all three.
+/// Counts at 2^64 - 1 stay.
+#[test]
+fn keeps_full_counts(rt: HostRuntime) -> Result<(), Fail> {
+    let alloc = rt.alloc();
+    let mut list: Vec<Box<dyn Watcher>> = Vec::new(alloc);
+    list.push(Box::new(alloc, StatusWatch::full_of_limited())?)?;
+    list.push(Box::new(alloc, RefusedWatch::full_of_last())?)?;
+    let limited = Outcome::Limited { status: 503 };
+    let notices = [Notice {
+        line: 1,
+        decision: open(limited, ReqStatus::Rejected, Some(15), ConnStatus::Unset),
+    }];
+    show_all(&mut list, &notices);
+    let mut text = Vec::new(alloc);
+    push_reports(alloc, &mut text, &list)?;
+    assert_eq!(rt;
+        text.as_slice(),
+        b"status pass=0 limited=18446744073709551615 gateway=0 busy=0 next=0 ended=0 idle=0\nrefused 15 18446744073709551615\n".as_slice()
+    );
+    Ok(())
+}
+
+/// The first watcher leaves at its second notice, and has seen two; the second stays and has seen all three.
 #[test]
 fn shows_up_to_the_leave(rt: HostRuntime) -> Result<(), Fail> {
     let alloc = rt.alloc();
-    let mut list: Vec<Box<dyn Watcher>> = Vec::new(alloc);
-    list.push(Box::new(alloc, leaving_at(2))?)?;
-    list.push(Box::new(alloc, leaving_at(9))?)?;
+    let first = Cell::new(0);
+    let second = Cell::new(0);
+    let mut list = Vec::new(alloc);
+    list.push(Counted {
+        patient: leaving_at(2),
+        shown: &first,
+    })?;
+    list.push(Counted {
+        patient: leaving_at(9),
+        shown: &second,
+    })?;
     let mut notices = Vec::new(alloc);
     for _ in 0..3 {
         push(&mut notices, Decision::Ended)?;
@@ -199,6 +261,8 @@ fn shows_up_to_the_leave(rt: HostRuntime) -> Result<(), Fail> {
     push_reports(alloc, &mut text, &list)?;
     assert_eq!(rt; list.len(), 1);
     assert_eq!(rt; text.as_slice(), b"seen 3".as_slice());
+    assert_eq!(rt; first.get(), 2);
+    assert_eq!(rt; second.get(), 3);
     Ok(())
 }
 
@@ -219,26 +283,8 @@ fn empties_a_long_list(rt: HostRuntime) -> Result<(), Fail> {
     Ok(())
 }
 
-/// A report that finds no memory.
-#[test]
-fn answers_for_a_report_without_memory(rt: HostRuntime) -> Result<(), Fail> {
-    let alloc = rt.alloc();
-    let mut list: Vec<Box<dyn Watcher>> = Vec::new(alloc);
-    let poor = Patient {
-        seen: 0,
-        last: 9,
-        has_memory: false,
-    };
-    list.push(Box::new(alloc, poor)?)?;
-    let mut text = Vec::new(alloc);
-    assert_eq!(rt; push_reports(alloc, &mut text, &list), Err(NoMemory));
-    Ok(())
-}
-
-/// The notices of two lines.
-#[test]
-fn numbers_the_notices(rt: HostRuntime) -> Result<(), Fail> {
-    let alloc = rt.alloc();
+/// Lines on which requests end, of the numbers 1 and 2.
+fn two_lines(alloc: Global) -> Result<Vec<Line>, NoMemory> {
     let mut lines = Vec::new(alloc);
     for number in 1..3 {
         lines.push(Line {
@@ -248,8 +294,56 @@ fn numbers_the_notices(rt: HostRuntime) -> Result<(), Fail> {
             event: Event::Done,
         })?;
     }
+    Ok(lines)
+}
+
+/// The notices of two lines.
+#[test]
+fn numbers_the_notices(rt: HostRuntime) -> Result<(), Fail> {
+    let alloc = rt.alloc();
+    let lines = two_lines(alloc)?;
     let notices = notices_of(alloc, &lines, &[Decision::IdleDone, Decision::IdleDone])?;
     assert_eq!(rt; notices.len(), 2);
     assert_eq!(rt; notices[1].line, 2);
+    Ok(())
+}
+
+/// The reports of those that are left follow the text.
+#[test]
+fn reports_behind_a_text(rt: HostRuntime) -> Result<(), Fail> {
+    let alloc = rt.alloc();
+    let lines = two_lines(alloc)?;
+    let mut list: Vec<Box<dyn Watcher>> = Vec::new(alloc);
+    list.push(Box::new(alloc, leaving_at(2))?)?;
+    list.push(Box::new(alloc, StatusWatch::new())?)?;
+    let mut text = Vec::from_slice(alloc, b"decided\n")?;
+    let decisions = [Decision::Busy, Decision::Ended];
+    show_and_report(alloc, &mut text, &lines, &decisions, &mut list)?;
+    assert_eq!(rt; list.len(), 1);
+    assert_eq!(rt;
+        text.as_slice(),
+        b"decided\nstatus pass=0 limited=0 gateway=0 busy=1 next=0 ended=1 idle=0\n".as_slice()
+    );
+    Ok(())
+}
+
+/// A report that finds no memory: the list was shown the notices.
+#[test]
+fn answers_for_a_report_without_memory(rt: HostRuntime) -> Result<(), Fail> {
+    let alloc = rt.alloc();
+    let lines = two_lines(alloc)?;
+    let poor = Patient {
+        seen: 0,
+        last: 9,
+        has_memory: false,
+    };
+    let mut list: Vec<Box<dyn Watcher>> = Vec::new(alloc);
+    list.push(Box::new(alloc, leaving_at(2))?)?;
+    list.push(Box::new(alloc, poor)?)?;
+    let mut text = Vec::new(alloc);
+    let decisions = [Decision::Busy, Decision::Ended];
+    let answer = show_and_report(alloc, &mut text, &lines, &decisions, &mut list);
+    assert_eq!(rt; answer, Err(NoMemory));
+    assert_eq!(rt; list.len(), 1);
     Ok(())
 }

@@ -14,8 +14,8 @@ use Rattle.zonereplay.specs.Plan.{Plan, Ends}
 use Rattle.zonereplay.specs.Plan.Plan.{refuses, writes}
 use Rattle.zonereplay.specs.Plan.End.{refused, written}
 use Rattle.zonereplay.specs.Devices.{Taken, Files, Devices, FilesCalm, TakesWhole, TakesNone, TakesFault}
-use Rattle.zonereplay.specs.Answers.{Stops, Stopped, Says, IsFree, Does}
-use Rattle.zonereplay.specs.Stages.{LineTold, Wants, StopTold, Wrote, Concludes, FilesKept, Prints, Prepares}
+use Rattle.zonereplay.specs.Answers.{Stops, Stopped, MayWatch, Says, IsFree, Does}
+use Rattle.zonereplay.specs.Stages.{LineTold, Wants, StopTold, Wrote, Concludes, FilesKept, Prints, StopLeaves, Prepares}
 
 known_kept : (known : Option (List ℕ)) → Keeps known known
 known_kept None = tt
@@ -28,32 +28,32 @@ none_taken taken = record { kept = known_kept taken.text; calm = refl }
 -- ---- what a status says
 
 -- a line that was due was told, or standard error refused it
-line_says : (plan : Plan) (before after : Devices) (stop : Stop) (answer : Status) → TakesNone before.out after.out → Stops plan before.files after.files stop
+line_says : (plan : Plan) (before after : Devices) (stop : Stop) (answer : Status) → TakesNone before.out after.out → Stops plan before.files after.files stop → after.watchers ≡ before.watchers
     → (TakesWhole before.err after.err (line_of stop) → Says plan before after (status_of stop)) → LineTold (status_of stop) (line_of stop) answer before.err after.err → Says plan before after answer
-line_says plan before after stop answer out cause says (inl (is, whole)) = subst (Says plan before after) (sym is) (says whole)
-line_says plan before after stop answer out cause says (inr (is, fault)) = subst (Says plan before after) (sym is) (inr (record { stop = stop; cause = cause; out = out; err = fault }))
+line_says plan before after stop answer out cause same says (inl (is, whole)) = subst (Says plan before after) (sym is) (says whole)
+line_says plan before after stop answer out cause same says (inr (is, fault)) = subst (Says plan before after) (sym is) (inr (record { stop = stop; cause = cause; out = out; err = fault; watchers = same }))
 
-want_says : (plan : Plan) (before after : Devices) (answer : Status) → TakesNone before.out after.out → FilesCalm before.files after.files → Wants answer before.err after.err → Says plan before after answer
-want_says plan before after answer out files (is, err) = subst (Says plan before after) (sym is) (record { files = files; out = out; err = err })
+want_says : (plan : Plan) (before after : Devices) (answer : Status) → TakesNone before.out after.out → FilesCalm before.files after.files → MayWatch before.files.contents plan before.watchers after.watchers → Wants answer before.err after.err → Says plan before after answer
+want_says plan before after answer out files watchers (is, err) = subst (Says plan before after) (sym is) (record { files = files; out = out; err = err; watchers = watchers })
 
-stopped : (plan : Plan) (before after : Devices) (stop : Stop) → TakesNone before.out after.out → Stops plan before.files after.files stop → TakesWhole before.err after.err (line_of stop) → Stopped plan before after (status_of stop)
-stopped plan before after stop out cause whole = record { stop = stop; status_is = refl; cause = cause; out = out; err = whole }
+stopped : (plan : Plan) (before after : Devices) (stop : Stop) → TakesNone before.out after.out → Stops plan before.files after.files stop → after.watchers ≡ before.watchers → TakesWhole before.err after.err (line_of stop) → Stopped plan before after (status_of stop)
+stopped plan before after stop out cause same whole = record { stop = stop; status_is = refl; cause = cause; out = out; err = whole; watchers = same }
 
 -- a stop is answered by its status
-stop_says : (plan : Plan) (before after : Devices) (stop : Stop) (answer : Status) → TakesNone before.out after.out → Stops plan before.files after.files stop → StopTold stop answer before.err after.err → Says plan before after answer
-stop_says plan before after (Refused Usage) answer out cause tells = line_says plan before after (Refused Usage) answer out cause (stopped plan before after (Refused Usage) out cause) tells
-stop_says plan before after (Refused TooLong) answer out cause tells = line_says plan before after (Refused TooLong) answer out cause (stopped plan before after (Refused TooLong) out cause) tells
-stop_says plan before after (Refused (Text line kind)) answer out cause (inl tells) = line_says plan before after (Refused (Text line kind)) answer out cause (stopped plan before after (Refused (Text line kind)) out cause) tells
-stop_says plan before after (Refused (Text line kind)) answer out cause (inr want) = want_says plan before after answer out cause.1 want
-stop_says plan before after (Refused (Rule line rule)) answer out cause (inl tells) = line_says plan before after (Refused (Rule line rule)) answer out cause (stopped plan before after (Refused (Rule line rule)) out cause) tells
-stop_says plan before after (Refused (Rule line rule)) answer out cause (inr want) = want_says plan before after answer out cause.1 want
-stop_says plan before after (Refused (Log line kind)) answer out cause (inl tells) = line_says plan before after (Refused (Log line kind)) answer out cause (stopped plan before after (Refused (Log line kind)) out cause) tells
-stop_says plan before after (Refused (Log line kind)) answer out cause (inr want) = want_says plan before after answer out cause.1 want
-stop_says plan before after ReadFault answer out cause tells = line_says plan before after ReadFault answer out cause (stopped plan before after ReadFault out cause) tells
-stop_says plan before after NoMemory answer out cause want = want_says plan before after answer out cause want
+stop_says : (plan : Plan) (before after : Devices) (stop : Stop) (answer : Status) → TakesNone before.out after.out → Stops plan before.files after.files stop → StopLeaves before.files.contents plan before.watchers after.watchers stop → StopTold stop answer before.err after.err → Says plan before after answer
+stop_says plan before after (Refused Usage) answer out cause same tells = line_says plan before after (Refused Usage) answer out cause same (stopped plan before after (Refused Usage) out cause same) tells
+stop_says plan before after (Refused TooLong) answer out cause same tells = line_says plan before after (Refused TooLong) answer out cause same (stopped plan before after (Refused TooLong) out cause same) tells
+stop_says plan before after (Refused (Text line kind)) answer out cause same (inl tells) = line_says plan before after (Refused (Text line kind)) answer out cause same (stopped plan before after (Refused (Text line kind)) out cause same) tells
+stop_says plan before after (Refused (Text line kind)) answer out cause same (inr want) = want_says plan before after answer out cause.1 (inl same) want
+stop_says plan before after (Refused (Rule line rule)) answer out cause same (inl tells) = line_says plan before after (Refused (Rule line rule)) answer out cause same (stopped plan before after (Refused (Rule line rule)) out cause same) tells
+stop_says plan before after (Refused (Rule line rule)) answer out cause same (inr want) = want_says plan before after answer out cause.1 (inl same) want
+stop_says plan before after (Refused (Log line kind)) answer out cause same (inl tells) = line_says plan before after (Refused (Log line kind)) answer out cause same (stopped plan before after (Refused (Log line kind)) out cause same) tells
+stop_says plan before after (Refused (Log line kind)) answer out cause same (inr want) = want_says plan before after answer out cause.1 (inl same) want
+stop_says plan before after ReadFault answer out cause same tells = line_says plan before after ReadFault answer out cause same (stopped plan before after ReadFault out cause same) tells
+stop_says plan before after NoMemory answer out cause may want = want_says plan before after answer out cause may want
 
 -- a text that was prepared was written, or a write failed
-text_says : (plan : Plan) (before after : Devices) (text : List ℕ) (answer : Status) → Prints before.files.contents plan text → FilesCalm before.files after.files → Wrote text answer before.out after.out before.err after.err → Says plan before after answer
+text_says : (plan : Plan) (before after : Devices) (text : List ℕ) (answer : Status) → Prints before.files.contents plan before.watchers after.watchers text → FilesCalm before.files after.files → Wrote text answer before.out after.out before.err after.err → Says plan before after answer
 text_says plan before after text answer prints files (inl (is, out, err)) =
     subst (Says plan before after) (sym is) (record { told = prints.told; ends = prints.ends; text = text; shown = prints.shown; files = files; out = out; err = err })
 text_says plan before after text answer prints files (inr (is, out, err)) =
@@ -90,18 +90,28 @@ does plan before after status files says = record { status = status; number_is =
 -- ---- how a command ends
 
 -- a command that followed its plan and concluded
-pub command_does : (plan : Plan) (before after : Devices) (prepared : Result (List ℕ) Stop) (status : Status) → Prepares plan before.files after.files prepared
+command_does : (plan : Plan) (before after : Devices) (prepared : Result (List ℕ) Stop) (status : Status) → Prepares plan before.files after.files before.watchers after.watchers prepared
     → Concludes prepared status before.out after.out before.err after.err → Does plan before after (code_of status)
 command_does plan before after (Ok text) status prepares wrote = does plan before after status prepares.files (text_says plan before after text status prepares.gives.0 prepares.gives.1 wrote)
-command_does plan before after (Err why) status prepares concludes = does plan before after status prepares.files (stop_says plan before after why status concludes.0 prepares.gives concludes.1)
+command_does plan before after (Err why) status prepares concludes = does plan before after status prepares.files (stop_says plan before after why status concludes.0 prepares.gives.0 prepares.gives.1 concludes.1)
+
+module _ {plan asked : Plan} {before after : Devices} {prepared : Result (List ℕ) Stop} (status : Status) {number : ℕ} where
+  -- and is told by its words and by a number
+  pub command_done : asked ≡ plan → number ≡ code_of status → Prepares plan before.files after.files before.watchers after.watchers prepared → Concludes prepared status before.out after.out before.err after.err → Does asked before after number
+  command_done is number_is prepares concludes =
+      subst (λ (p : Plan). Does p before after number) (sym is) (subst (λ (n : ℕ). Does plan before after n) (sym number_is) (command_does plan before after prepared status prepares concludes))
 
 -- words of no form
-pub usage_does : (plan : Plan) (before after : Devices) (status : Status) → plan ≡ refuses Usage → after.files ≡ before.files → after.out ≡ before.out → StopTold (Refused Usage) status before.err after.err → Does plan before after (code_of status)
-usage_does plan before after status is files out tells =
+usage_does : (plan : Plan) (before after : Devices) (status : Status) → plan ≡ refuses Usage → after.files ≡ before.files → after.out ≡ before.out → after.watchers ≡ before.watchers → StopTold (Refused Usage) status before.err after.err → Does plan before after (code_of status)
+usage_does plan before after status is files out watchers tells =
     let ends = subst (λ (p : Plan). Ends before.files.contents p (refused Usage)) (sym is) refl in
     let calm : FilesCalm before.files after.files = λ name. ap (λ (f : Files). f.faults name) files in
     let kept : FilesKept before.files after.files = record { kept = λ name. ap (λ (f : Files). f.contents name) files; later = λ name. rw files (omega arith) } in
-    does plan before after status kept (stop_says plan before after (Refused Usage) status (rw out (none_taken before.out)) (ends, calm) tells)
+    does plan before after status kept (stop_says plan before after (Refused Usage) status (rw out (none_taken before.out)) (ends, calm) watchers tells)
+
+module _ {plan : Plan} {before after : Devices} (status : Status) {number : ℕ} where
+  pub usage_done : plan ≡ refuses Usage → number ≡ code_of status → after.files ≡ before.files → after.out ≡ before.out → after.watchers ≡ before.watchers → StopTold (Refused Usage) status before.err after.err → Does plan before after number
+  usage_done is number_is files out watchers tells = subst (λ (n : ℕ). Does plan before after n) (sym number_is) (usage_does plan before after status is files out watchers tells)
 
 -- ---- a command that reads nothing
 

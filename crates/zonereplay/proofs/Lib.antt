@@ -3,6 +3,7 @@ pub mod StopLemmas
 pub mod AnswerLemmas
 pub mod OneLemmas
 pub mod WordLemmas
+pub mod ReportLemmas
 pub mod PlainLemmas
 pub mod ImageLemmas
 pub mod MadeLemmas

@@ -1,5 +1,5 @@
 -- A log that was read, and the plans that begin with it.
-use Rattle.std.proofs.Common.{ℕ, ◌≡◌, ◌≤◌, List, length, Result, Ok, Err, ap, sym, subst, refl}
+use Rattle.std.proofs.Common.{ℕ, ◌≡◌, ◌≤◌, List, length, Ok, Err, ap, sym, subst, refl, inl, inr}
 use Rattle.std.specs.List.{All}
 use Rattle.std.specs.declared.vec.Vec.{Vec}
 use Rattle.std.specs.declared.alloc.Global.{Global}
@@ -10,12 +10,14 @@ use Rattle.replay_log.specs.Requests.{requests_of}
 use Rattle.zonereplay.specs.declared.stop.Refusal.TheVariants.{Log}
 use Rattle.zonereplay.specs.declared.stop.Stop.{Stop}
 use Rattle.zonereplay.specs.declared.stop.Stop.TheVariants.{Refused, NoMemory}
-use Rattle.zonereplay.specs.Told.{Told, Shows}
+use Rattle.zone_watch.specs.Watched.{Watched}
+use Rattle.zonereplay.specs.Told.{Told, Shows, MayShow}
 use Rattle.zonereplay.specs.Plan.{Plan, Ends, log_run, log_plan}
 use Rattle.zonereplay.specs.Plan.End.{refused, written}
 use Rattle.zonereplay.specs.Devices.{Files}
+use Rattle.zonereplay.specs.Answers.{MayWatch}
 use Rattle.zonereplay.specs.Stages.{IsTextOf, ReadsText, ReadsLog, Prepares}
-use Rattle.zonereplay.proofs.StopLemmas.{read_ends}
+use Rattle.zonereplay.proofs.StopLemmas.{read_ends, leaves_same}
 
 -- what a plan goes on to by the text of its log
 abbrev behind : Config → (List Line → Told) → List ℕ → Plan
@@ -59,15 +61,23 @@ module _ (log : List ℕ) (config : Config) (before after : Files) where
 
   -- ---- what is told of its lines
 
-  module _ (told : List Line → Told) where
+  module _ (told : List Line → Told) (seen : List Watched) where
     -- was prepared
-    pub lines_prepares : (lines : Vec Line Global) (text : List ℕ) → ReadsLog log config before after (Ok lines) → Shows (told lines.items) text → Prepares (log_plan log config told) before after (Ok text)
-    lines_prepares lines text read shown = record { files = read.files; gives = (record { told = told lines.items; ends = read.gives.0.ends told; shown = shown }, read.gives.1) }
+    pub lines_prepares : (left : List Watched) (lines : Vec Line Global) (given : List Line) (text : List ℕ) → ReadsLog log config before after (Ok lines) → given ≡ lines.items → Shows (told given) seen left text → Prepares (log_plan log config told) before after seen left (Ok text)
+    lines_prepares left lines given text read given_is shown =
+        let own = subst (λ (ls : List Line). Shows (told ls) seen left text) given_is shown in
+        record { files = read.files; gives = (record { told = told lines.items; ends = read.gives.0.ends told; shown = own }, read.gives.1) }
+
+    may_watch : (left : List Watched) (lines : List Line) → Ends before.contents (log_plan log config told) (written (told lines)) → MayShow (told lines) seen left → MayWatch before.contents (log_plan log config told) seen left
+    may_watch left lines ends (inl same) = inl same
+    may_watch left lines ends (inr shown) = inr (told lines, ends, shown)
 
     -- or there was no memory for it
-    pub lines_too_many : (lines : Vec Line Global) → ReadsLog log config before after (Ok lines) → Prepares (log_plan log config told) before after (Err NoMemory)
-    lines_too_many lines read = record { files = read.files; gives = read.gives.1 }
+    pub lines_too_many : (left : List Watched) (lines : Vec Line Global) (given : List Line) → ReadsLog log config before after (Ok lines) → given ≡ lines.items → MayShow (told given) seen left → Prepares (log_plan log config told) before after seen left (Err NoMemory)
+    lines_too_many left lines given read given_is may =
+        let own = subst (λ (ls : List Line). MayShow (told ls) seen left) given_is may in
+        record { files = read.files; gives = (read.gives.1, may_watch left lines.items (read.gives.0.ends told) own) }
 
     -- or there are none
-    pub lines_stopped : (why : Stop) → ReadsLog log config before after (Err why) → Prepares (log_plan log config told) before after (Err why)
-    lines_stopped why read = record { files = read.files; gives = read.gives told }
+    pub lines_stopped : (why : Stop) → ReadsLog log config before after (Err why) → Prepares (log_plan log config told) before after seen seen (Err why)
+    lines_stopped why read = record { files = read.files; gives = (read.gives told, leaves_same before.contents (log_plan log config told) seen why) }

@@ -1,5 +1,5 @@
 -- A replay by one worker has one text, and what `plain` replays follows from what its files hold.
-use Rattle.std.proofs.Common.{ℕ, ◌≡◌, Bool, true, false, if◌then◌else◌, List, length, map, Option, Some, None, Result, Ok, Err, sym, refl, ap, subst, ◌∙◌, inl, inr}
+use Rattle.std.proofs.Common.{ℕ, ◌≡◌, Bool, true, false, if◌then◌else◌, List, ◌++◌, length, map, Option, Some, None, Result, Ok, Err, sym, refl, ap, subst, ◌∙◌, inl, inr}
 use Rattle.std.specs.Prelude.{nat_lt}
 use Rattle.std.specs.List.{filter_map}
 use Rattle.directive_text.specs.declared.tree.Directive.{Directive}
@@ -23,6 +23,8 @@ use Rattle.zonereplay.specs.declared.stop.Refusal.TheVariants.{TooLong}
 use Rattle.made_log.specs.MadeConfig.{made_config}
 use Rattle.made_log.specs.MadeLog.{made_lines}
 use Rattle.made_log.specs.Summary.{summary_text}
+use Rattle.zone_watch.specs.Notices.{notices_of}
+use Rattle.zone_watch.specs.Watched.{Watched, shown, reports_of}
 use Rattle.zonereplay.specs.Told.{Told, Shows}
 use Rattle.zonereplay.specs.Told.Told.{replay, summary}
 use Rattle.zonereplay.specs.Plan.{Plan, SaysConfig, Ends, MayHold, text_limit, in_limit, unless_refused, with_zones, log_run, plain_log, plain_plan}
@@ -33,15 +35,21 @@ use Rattle.zonereplay.specs.OneShown.{OneShown, SomeShown, OnePlain, OneWorker, 
 -- ---- a replay
 
 pub one_shown : OneShown
-one_shown config lines first second h k =
+one_shown config lines watchers one_left other_left first second h k =
     let one : Outcome = record { decided = h.decided; logs = h.logs } in
     let two : Outcome = record { decided = k.decided; logs = k.logs } in
-    h.text_is ∙ ap (λ (o : Outcome). replay_text config o.decided o.logs) (one_replay config lines one two h.played k.played) ∙ sym k.text_is
+    let same = one_replay config lines one two h.played k.played in
+    let left : one_left ≡ other_left = h.reported.list ∙ ap (λ (o : Outcome). shown (notices_of lines (map decision_of o.decided)) watchers) same ∙ sym k.reported.list in
+    let text = h.reported.told ∙ ap (λ (o : Outcome). replay_text config o.decided o.logs ++ reports_of one_left) same
+    ∙ ap (λ (ws : List Watched). replay_text config k.decided k.logs ++ reports_of ws) left ∙ sym k.reported.told in
+    (text, left)
 
 pub some_shown : SomeReplay → SomeShown
-some_shown law config lines is none ok few =
+some_shown law config lines watchers is none ok few =
     let found = law config lines is none ok few in
-    (replay_text config found.0.decided found.0.logs, record { decided = found.0.decided; logs = found.0.logs; played = found.1; text_is = refl })
+    let left = shown (notices_of lines (map decision_of found.0.decided)) watchers in
+    let text = replay_text config found.0.decided found.0.logs ++ reports_of left in
+    (left, (text, record { decided = found.0.decided; logs = found.0.logs; played = found.1; reported = record { list = refl; told = refl } }))
 
 -- ---- a configuration
 
@@ -131,13 +139,13 @@ one_told given lines one two h k =
     h.told_is ∙ ap (λ (c : Config). replay c 1 h.requests) config ∙ ap (λ (l : List Line). replay k.config 1 l) requests ∙ sym k.told_is
 
 pub one_plain : OnePlain
-one_plain contents name log given lines first second name_is log_is h k =
+one_plain contents name log given lines watchers one_left other_left first second name_is log_is h k =
     let one = plain_told contents h.told name log given lines name_is log_is h.ends in
     let two = plain_told contents k.told name log given lines name_is log_is k.ends in
     let same : k.told ≡ h.told = one_told given lines k.told h.told two one in
-    let shown : Shows (replay one.config 1 one.requests) first = subst (λ (t : Told). Shows t first) one.told_is h.shown in
-    let too : Shows (replay one.config 1 one.requests) second = subst (λ (t : Told). Shows t second) (same ∙ one.told_is) k.shown in
-    one_shown one.config one.requests first second shown too
+    let shows : Shows (replay one.config 1 one.requests) watchers one_left first = subst (λ (t : Told). Shows t watchers one_left first) one.told_is h.shown in
+    let too : Shows (replay one.config 1 one.requests) watchers other_left second = subst (λ (t : Told). Shows t watchers other_left second) (same ∙ one.told_is) k.shown in
+    one_shown one.config one.requests watchers one_left other_left first second shows too
 
 -- ---- `replay` on one worker
 
@@ -156,9 +164,11 @@ same-told : (one two : Told) → written one ≡ written two → one ≡ two
 same-told one two is = cc
 
 pub one_made : OneMade
-one_made some other seed count first second h k =
+one_made some other seed count watchers one_left others other_left first second h k =
     let config = made_config in
     let lines = made_lines seed count in
     let one : h.told ≡ summary config lines = same-told h.told (summary config lines) h.ends in
     let two : k.told ≡ summary config lines = same-told k.told (summary config lines) k.ends in
-    one_summary config lines first second (subst (λ (t : Told). Shows t first) one h.shown) (subst (λ (t : Told). Shows t second) two k.shown)
+    let shows : Shows (summary config lines) watchers one_left first = subst (λ (t : Told). Shows t watchers one_left first) one h.shown in
+    let too : Shows (summary config lines) others other_left second = subst (λ (t : Told). Shows t others other_left second) two k.shown in
+    one_summary config lines first second shows.0 too.0

@@ -15,8 +15,9 @@ use Rattle.zonereplay.specs.Plan.{Plan, End, Ends, Reaches, MayHold, text_limit,
 use Rattle.zonereplay.specs.Plan.Plan.{refuses, reads}
 use Rattle.zonereplay.specs.Plan.End.{refused, written}
 use Rattle.zonereplay.specs.Devices.{Files, FilesCalm}
-use Rattle.zonereplay.specs.Answers.{Stops}
-use Rattle.zonereplay.specs.Stages.{FilesKept, IsTextOf, ReadsText, IsUsable, OpensConfig, Prepares}
+use Rattle.zone_watch.specs.Watched.{Watched}
+use Rattle.zonereplay.specs.Answers.{Stops, MayWatch}
+use Rattle.zonereplay.specs.Stages.{FilesKept, IsTextOf, ReadsText, IsUsable, OpensConfig, Prints, StopLeaves, Prepares}
 
 -- there is a text longer than n
 long_text : (n : ℕ) → (text : List ℕ) × (n < length text)
@@ -45,6 +46,29 @@ too_long_stops name before after long calm next = (some_long before.contents nex
 pub unread_stops : (name : List ℕ) (before after : Files) → Rose (before.faults name) (after.faults name) → (next : List ℕ → Plan) → Stops (reads name (in_limit next)) before after ReadFault
 unread_stops name before after rose next = record { name = name; named = inl refl; rose = rose }
 
+-- ---- the watchers of a plan that stops
+
+module _ (contents : List ℕ → Option (List ℕ)) (plan whole : Plan) (seen left : List Watched) (on : (end : End) → Ends contents plan end → Ends contents whole end) where
+  -- what a plan prints is printed by one that goes on to it
+  pub prints_on : (text : List ℕ) → Prints contents plan seen left text → Prints contents whole seen left text
+  prints_on text prints = record { told = prints.told; ends = on (written prints.told) prints.ends; shown = prints.shown }
+
+  may_watch_on : MayWatch contents plan seen left → MayWatch contents whole seen left
+  may_watch_on (inl same) = inl same
+  may_watch_on (inr (told, ends, shown)) = inr (told, on (written told) ends, shown)
+
+  -- and what it leaves of the watchers where it stops is left by that one
+  pub leaves_on : (why : Stop) → StopLeaves contents plan seen left why → StopLeaves contents whole seen left why
+  leaves_on (Refused refusal) same = same
+  leaves_on ReadFault same = same
+  leaves_on NoMemory may = may_watch_on may
+
+-- a plan that stops before it comes to the watchers leaves them as they were
+pub leaves_same : (contents : List ℕ → Option (List ℕ)) (plan : Plan) (seen : List Watched) (why : Stop) → StopLeaves contents plan seen seen why
+leaves_same contents plan seen (Refused refusal) = refl
+leaves_same contents plan seen ReadFault = refl
+leaves_same contents plan seen NoMemory = inl refl
+
 -- ---- after a text was read
 
 -- a plan that reads a text ends as what it goes on to by it
@@ -60,14 +84,13 @@ read_stops name before after next text (Refused refusal) held stops = (read_ends
 read_stops name before after next text ReadFault held unread = record { name = unread.name; named = read_reaches before.contents name next text unread.name held unread.named; rose = unread.rose }
 read_stops name before after next text NoMemory held calm = calm
 
-read_gives : (name : List ℕ) (before after : Files) (next : List ℕ → Plan) (text : List ℕ) (prepared : Result (List ℕ) Stop) → IsTextOf (before.contents name) text → Prepares (next text) before after prepared → Prepares (reads name (in_limit next)) before after prepared
-read_gives name before after next text (Ok written_text) held went =
-    let prints = went.gives.0 in
-    record {
-      files = went.files;
-      gives = (record { told = prints.told; ends = read_ends before.contents name next text (written prints.told) held prints.ends; shown = prints.shown }, went.gives.1);
-    }
-read_gives name before after next text (Err why) held went = record { files = went.files; gives = read_stops name before after next text why held went.gives }
+read_gives : (name : List ℕ) (before after : Files) (seen left : List Watched) (next : List ℕ → Plan) (text : List ℕ) (prepared : Result (List ℕ) Stop) → IsTextOf (before.contents name) text → Prepares (next text) before after seen left prepared → Prepares (reads name (in_limit next)) before after seen left prepared
+read_gives name before after seen left next text (Ok written_text) held went =
+    let on = λ (end : End). read_ends before.contents name next text end held in
+    record { files = went.files; gives = (prints_on before.contents (next text) (reads name (in_limit next)) seen left on written_text went.gives.0, went.gives.1) }
+read_gives name before after seen left next text (Err why) held went =
+    let on = λ (end : End). read_ends before.contents name next text end held in
+    record { files = went.files; gives = (read_stops name before after next text why held went.gives.0, leaves_on before.contents (next text) (reads name (in_limit next)) seen left on why went.gives.1) }
 
 -- files that hold what they held, and of which none failed, are as they were
 same_files : (before after : Files) → FilesKept before after → FilesCalm before after → after ≡ before
@@ -76,14 +99,16 @@ same_files before after files calm =
     ap (λ c. made c after.faults) (fun_ext files.kept) ∙ ap (made before.contents) (fun_ext calm)
 
 -- a plan that reads a text goes on by it
-pub read_prepares : (name : List ℕ) (before between after : Files) (next : List ℕ → Plan) (text : Vec ℕ Global) (prepared : Result (List ℕ) Stop) → ReadsText name before between (Ok text) → Prepares (next text.items) between after prepared → Prepares (reads name (in_limit next)) before after prepared
-read_prepares name before between after next text prepared read went =
+pub read_prepares : (name : List ℕ) (before between after : Files) (seen left : List Watched) (next : List ℕ → Plan) (text : Vec ℕ Global) (given : List ℕ) (prepared : Result (List ℕ) Stop) → ReadsText name before between (Ok text) → given ≡ text.items → Prepares (next given) between after seen left prepared
+    → Prepares (reads name (in_limit next)) before after seen left prepared
+read_prepares name before between after seen left next text given prepared read given_is went =
     let same = same_files before between read.files read.gives.1 in
-    read_gives name before after next text.items prepared read.gives.0 (subst (λ (f : Files). Prepares (next text.items) f after prepared) same went)
+    let own = subst (λ (t : List ℕ). Prepares (next t) between after seen left prepared) given_is went in
+    read_gives name before after seen left next text.items prepared read.gives.0 (subst (λ (f : Files). Prepares (next text.items) f after seen left prepared) same own)
 
 -- a plan that can't read a text stops
-pub read_stopped : (name : List ℕ) (before after : Files) (next : List ℕ → Plan) (why : Stop) → ReadsText name before after (Err why) → Prepares (reads name (in_limit next)) before after (Err why)
-read_stopped name before after next why read = record { files = read.files; gives = read.gives next }
+pub read_stopped : (name : List ℕ) (before after : Files) (seen : List Watched) (next : List ℕ → Plan) (why : Stop) → ReadsText name before after (Err why) → Prepares (reads name (in_limit next)) before after seen seen (Err why)
+read_stopped name before after seen next why read = record { files = read.files; gives = (read.gives next, leaves_same before.contents (reads name (in_limit next)) seen why) }
 
 -- ---- after a configuration was read and its zones opened
 
@@ -99,17 +124,16 @@ config_stops text before after next config ReadFault use_it unread = record { na
 config_stops text before after next config NoMemory use_it calm = calm
 
 -- a plan that uses a configuration goes on by it
-pub config_prepares : (text : List ℕ) (before after : Files) (next : Config → Plan) (config : Config) (prepared : Result (List ℕ) Stop) → IsUsable text config → Prepares (next config) before after prepared → Prepares (with_zones text next) before after prepared
-config_prepares text before after next config (Ok written_text) use_it went =
-    let prints = went.gives.0 in
-    record {
-      files = went.files;
-      gives = (record { told = prints.told; ends = config_ends before.contents text next config (written prints.told) use_it prints.ends; shown = prints.shown }, went.gives.1);
-    }
-config_prepares text before after next config (Err why) use_it went = record { files = went.files; gives = config_stops text before after next config why use_it went.gives }
+pub config_prepares : (text : List ℕ) (before after : Files) (seen left : List Watched) (next : Config → Plan) (config : Config) (prepared : Result (List ℕ) Stop) → IsUsable text config → Prepares (next config) before after seen left prepared → Prepares (with_zones text next) before after seen left prepared
+config_prepares text before after seen left next config (Ok written_text) use_it went =
+    let on = λ (end : End). config_ends before.contents text next config end use_it in
+    record { files = went.files; gives = (prints_on before.contents (next config) (with_zones text next) seen left on written_text went.gives.0, went.gives.1) }
+config_prepares text before after seen left next config (Err why) use_it went =
+    let on = λ (end : End). config_ends before.contents text next config end use_it in
+    record { files = went.files; gives = (config_stops text before after next config why use_it went.gives.0, leaves_on before.contents (next config) (with_zones text next) seen left on why went.gives.1) }
 
 -- a plan that can't use it stops
-pub config_stopped : (text : List ℕ) (files : Files) (next : Config → Plan) (why : Stop) → OpensConfig text (Err why) → Prepares (with_zones text next) files files (Err why)
-config_stopped text files next (Refused refusal) h = record { files = record { kept = λ name. refl; later = λ name. omega arith }; gives = (h files.contents next, λ name. refl) }
-config_stopped text files next ReadFault h = absurd h
-config_stopped text files next NoMemory h = record { files = record { kept = λ name. refl; later = λ name. omega arith }; gives = λ name. refl }
+pub config_stopped : (text : List ℕ) (files : Files) (seen : List Watched) (next : Config → Plan) (why : Stop) → OpensConfig text (Err why) → Prepares (with_zones text next) files files seen seen (Err why)
+config_stopped text files seen next (Refused refusal) h = record { files = record { kept = λ name. refl; later = λ name. omega arith }; gives = ((h files.contents next, λ name. refl), refl) }
+config_stopped text files seen next ReadFault h = absurd h
+config_stopped text files seen next NoMemory h = record { files = record { kept = λ name. refl; later = λ name. omega arith }; gives = (λ name. refl, inl refl) }

@@ -1,6 +1,7 @@
 -- What a status says, and all that a command promises of its plan.
-use Rattle.std.specs.Prelude.{ℕ, ◌≡◌, ◌≤◌, ◌⊎◌, List}
+use Rattle.std.specs.Prelude.{ℕ, ◌≡◌, ◌≤◌, ◌⊎◌, List, Option}
 use Rattle.zone_outside.specs.Faults.{Rose}
+use Rattle.zone_watch.specs.Watched.{Watched}
 use Rattle.zonereplay.specs.declared.status.Status.{Status}
 use Rattle.zonereplay.specs.declared.status.Status.TheVariants.{Done, Usage, ConfigFault, LogFault, ReadFault, WriteFault, TooLong, NoMemory}
 use Rattle.zonereplay.specs.declared.stop.Refusal.{Refusal}
@@ -34,7 +35,7 @@ pub record Written (plan : Plan) (before after : Devices) : Type 0 where
   pub told : Told
   pub ends : Ends before.files.contents plan (written told)
   pub text : List ℕ
-  pub shown : Shows told text
+  pub shown : Shows told before.watchers after.watchers text
   pub files : FilesCalm before.files after.files
   pub out : TakesWhole before.out after.out text
   pub err : TakesNone before.err after.err
@@ -44,7 +45,7 @@ pub record OutFault (plan : Plan) (before after : Devices) : Type 0 where
   pub told : Told
   pub ends : Ends before.files.contents plan (written told)
   pub text : List ℕ
-  pub shown : Shows told text
+  pub shown : Shows told before.watchers after.watchers text
   pub files : FilesCalm before.files after.files
   pub out : TakesPart before.out after.out text
   pub err : Tries before.err after.err write_fault
@@ -56,6 +57,7 @@ pub record Stopped (plan : Plan) (before after : Devices) (status : Status) : Ty
   pub cause : Stops plan before.files after.files stop
   pub out : TakesNone before.out after.out
   pub err : TakesWhole before.err after.err (line_of stop)
+  pub watchers : after.watchers ≡ before.watchers
 
 -- the plan stopped, and a write of its line failed
 pub record ErrFault (plan : Plan) (before after : Devices) : Type 0 where
@@ -63,12 +65,18 @@ pub record ErrFault (plan : Plan) (before after : Devices) : Type 0 where
   pub cause : Stops plan before.files after.files stop
   pub out : TakesNone before.out after.out
   pub err : TakesFault before.err after.err (line_of stop)
+  pub watchers : after.watchers ≡ before.watchers
+
+-- the watchers are as they were, or as a text that the plan writes leaves them
+abbrev pub MayWatch : (List ℕ → Option (List ℕ)) → Plan → List Watched → List Watched → Type 0
+MayWatch contents plan before after = (after ≡ before) ⊎ ((told : Told) × Ends contents plan (written told) × ((text : List ℕ) × Shows told before after text))
 
 -- there was no memory, and nothing was written
-pub record WantOfMemory (before after : Devices) : Type 0 where
+pub record WantOfMemory (plan : Plan) (before after : Devices) : Type 0 where
   pub files : FilesCalm before.files after.files
   pub out : TakesNone before.out after.out
   pub err : TakesNone before.err after.err
+  pub watchers : MayWatch before.files.contents plan before.watchers after.watchers
 
 -- what a status says
 abbrev pub Says : Plan → Devices → Devices → Status → Type 0
@@ -79,7 +87,7 @@ Says plan before after LogFault = Stopped plan before after LogFault
 Says plan before after ReadFault = Stopped plan before after ReadFault
 Says plan before after TooLong = Stopped plan before after TooLong
 Says plan before after WriteFault = OutFault plan before after ⊎ ErrFault plan before after
-Says plan before after NoMemory = WantOfMemory before after
+Says plan before after NoMemory = WantOfMemory plan before after
 
 -- ---- completeness
 

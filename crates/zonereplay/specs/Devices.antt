@@ -2,6 +2,7 @@
 use Rattle.std.specs.Prelude.{ℕ, ◌≡◌, ◌<◌, ◌⊎◌, List, Option, length, take, codes}
 use Rattle.std.specs.Io.KnownBytes.{Appends, Keeps}
 use Rattle.zone_outside.specs.Faults.{Rose}
+use Rattle.zone_watch.specs.Watched.{Watched}
 
 -- what the files hold, by name and where that is told, and the count of faults of each name
 pub record Files : Type 0 where
@@ -13,11 +14,12 @@ pub record Taken : Type 0 where
   pub text : Option (List ℕ)
   pub faults : ℕ
 
--- all that a command is given: the files, standard output and standard error
+-- all that a command is given: the files, standard output, standard error and the watchers
 pub record Devices : Type 0 where
   pub files : Files
   pub out : Taken
   pub err : Taken
+  pub watchers : List Watched
 
 -- no file failed: the counts of all names are as before
 abbrev pub FilesCalm : Files → Files → Type 0

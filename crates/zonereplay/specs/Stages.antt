@@ -19,9 +19,10 @@ use Rattle.zonereplay.specs.Plan.{Plan, SaysConfig, IsWrong, Ends, MayHold, in_l
 use Rattle.zonereplay.specs.Plan.Plan.{reads}
 use Rattle.zonereplay.specs.Plan.End.{refused, written}
 use Rattle.zonereplay.specs.Devices.{Files, Taken, FilesCalm, TakesWhole, TakesNone, TakesPart, TakesFault, Tries, write_fault}
-use Rattle.zonereplay.specs.Answers.{Stops}
+use Rattle.zonereplay.specs.Answers.{Stops, MayWatch}
 use Rattle.zone_outside.specs.Buffers.{Buffer}
 use Rattle.zone_outside.specs.Faults.{Rose}
+use Rattle.zone_watch.specs.Watched.{Watched}
 
 -- the files hold what they held, and no count of them fell
 pub record FilesKept (before after : Files) : Type 0 where
@@ -74,16 +75,22 @@ pub record ReadsLog (name : List ℕ) (config : Config) (before after : Files) (
 
 -- ---- preparing
 
--- a text that shows what the plan writes
-pub record Prints (contents : List ℕ → Option (List ℕ)) (plan : Plan) (text : List ℕ) : Type 0 where
+-- a text that shows what the plan writes, and what it leaves of the watchers
+pub record Prints (contents : List ℕ → Option (List ℕ)) (plan : Plan) (seen left : List Watched) (text : List ℕ) : Type 0 where
   pub told : Told
   pub ends : Ends contents plan (written told)
-  pub shown : Shows told text
+  pub shown : Shows told seen left text
 
--- a plan was followed to its end: the text that it writes, or why it stops
-pub record Prepares (plan : Plan) (before after : Files) (prepared : Result (List ℕ) Stop) : Type 0 where
+-- what a plan that stops leaves of the watchers: those that it was given, but where there was no memory
+abbrev pub StopLeaves : (List ℕ → Option (List ℕ)) → Plan → List Watched → List Watched → Stop → Type 0
+StopLeaves contents plan seen left (stop.Refused refusal) = left ≡ seen
+StopLeaves contents plan seen left stop.ReadFault = left ≡ seen
+StopLeaves contents plan seen left stop.NoMemory = MayWatch contents plan seen left
+
+-- a plan was followed to its end: the text that it writes, or why it stops; and what it leaves of the watchers
+pub record Prepares (plan : Plan) (before after : Files) (seen left : List Watched) (prepared : Result (List ℕ) Stop) : Type 0 where
   pub files : FilesKept before after
-  pub gives : MatchResult prepared (λ text. Prints before.contents plan text × FilesCalm before after) (Stops plan before after)
+  pub gives : MatchResult prepared (λ text. Prints before.contents plan seen left text × FilesCalm before after) (λ why. Stops plan before after why × StopLeaves before.contents plan seen left why)
 
 -- ---- concluding
 

@@ -1,4 +1,4 @@
-ghost use Rattle.std.specs.Prelude.{◌≡◌, ◌⊎◌, IsSome};
+ghost use Rattle.std.specs.Prelude.{◌≡◌, ◌⊎◌, map, IsSome};
 ghost use Rattle.zonereplay.specs.Words.{one_of, check_of, plain_of, image_of, made_of, replay_of};
 ghost use Rattle.zonereplay.specs.Plan.{plan_of};
 ghost use Rattle.zonereplay.specs.Answers.{Does};
@@ -19,6 +19,7 @@ use std::alloc::Global;
 use std::sync::Wait;
 use std::thread::Threads;
 use zone_outside::{Shelf, Sink, Text};
+use zone_watch::Watcher;
 
 /// Writes the text that a command prepared, or tells why it stopped.
 fn conclude<O: Sink, E: Sink>(
@@ -48,6 +49,7 @@ pub fn one_command<F: Shelf, O: Sink, E: Sink>(
     files: &mut F,
     out: &mut O,
     err: &mut E,
+    _watchers: &mut Vec<Box<dyn Watcher>>,
 ) -> u8
     requires { IsSome (one_of words.now) }
     ensures { Does (plan_of words.now)
@@ -55,11 +57,13 @@ pub fn one_command<F: Shelf, O: Sink, E: Sink>(
           files = record { contents = F.contents files.old; faults = F.faults files.old };
           out = record { text = O.taken out.old; faults = O.faults out.old };
           err = record { text = E.taken err.old; faults = E.faults err.old };
+          watchers = map (λ b. watched b) _watchers.old.items;
         })
         (record {
           files = record { contents = F.contents files.new; faults = F.faults files.new };
           out = record { text = O.taken out.new; faults = O.faults out.new };
           err = record { text = E.taken err.new; faults = E.faults err.new };
+          watchers = map (λ b. watched b) _watchers.new.items;
         })
         result }
 {
@@ -77,6 +81,7 @@ pub fn check_command<F: Shelf, O: Sink, E: Sink>(
     files: &mut F,
     out: &mut O,
     err: &mut E,
+    _watchers: &mut Vec<Box<dyn Watcher>>,
 ) -> u8
     requires { IsSome (check_of words.now) }
     ensures { Does (plan_of words.now)
@@ -84,11 +89,13 @@ pub fn check_command<F: Shelf, O: Sink, E: Sink>(
           files = record { contents = F.contents files.old; faults = F.faults files.old };
           out = record { text = O.taken out.old; faults = O.faults out.old };
           err = record { text = E.taken err.old; faults = E.faults err.old };
+          watchers = map (λ b. watched b) _watchers.old.items;
         })
         (record {
           files = record { contents = F.contents files.new; faults = F.faults files.new };
           out = record { text = O.taken out.new; faults = O.faults out.new };
           err = record { text = E.taken err.new; faults = E.faults err.new };
+          watchers = map (λ b. watched b) _watchers.new.items;
         })
         result }
 {
@@ -107,6 +114,7 @@ pub fn plain_command<F: Shelf, O: Sink, E: Sink>(
     files: &mut F,
     out: &mut O,
     err: &mut E,
+    watchers: &mut Vec<Box<dyn Watcher>>,
 ) -> u8
     requires { IsSome (plain_of words.now) }
     ensures { Does (plan_of words.now)
@@ -114,18 +122,20 @@ pub fn plain_command<F: Shelf, O: Sink, E: Sink>(
           files = record { contents = F.contents files.old; faults = F.faults files.old };
           out = record { text = O.taken out.old; faults = O.faults out.old };
           err = record { text = E.taken err.old; faults = E.faults err.old };
+          watchers = map (λ b. watched b) watchers.old.items;
         })
         (record {
           files = record { contents = F.contents files.new; faults = F.faults files.new };
           out = record { text = O.taken out.new; faults = O.faults out.new };
           err = record { text = E.taken err.new; faults = E.faults err.new };
+          watchers = map (λ b. watched b) watchers.new.items;
         })
         result }
 {
     let Some((name, log)) = read_plain(words) else {
         unreachable!()
     };
-    let prepared = prepare_plain(alloc, name, log, files);
+    let prepared = prepare_plain(alloc, name, log, files, watchers);
     conclude(alloc, prepared, out, err).code()
 }
 
@@ -137,6 +147,7 @@ pub fn image_command<F: Shelf, O: Sink, E: Sink>(
     files: &mut F,
     out: &mut O,
     err: &mut E,
+    watchers: &mut Vec<Box<dyn Watcher>>,
 ) -> u8
     requires { IsSome (image_of words.now) }
     ensures { Does (plan_of words.now)
@@ -144,18 +155,20 @@ pub fn image_command<F: Shelf, O: Sink, E: Sink>(
           files = record { contents = F.contents files.old; faults = F.faults files.old };
           out = record { text = O.taken out.old; faults = O.faults out.old };
           err = record { text = E.taken err.old; faults = E.faults err.old };
+          watchers = map (λ b. watched b) watchers.old.items;
         })
         (record {
           files = record { contents = F.contents files.new; faults = F.faults files.new };
           out = record { text = O.taken out.new; faults = O.faults out.new };
           err = record { text = E.taken err.new; faults = E.faults err.new };
+          watchers = map (λ b. watched b) watchers.new.items;
         })
         result }
 {
     let Some((name, log, zone)) = read_image(words) else {
         unreachable!()
     };
-    let prepared = prepare_image(alloc, name, log, zone, files);
+    let prepared = prepare_image(alloc, name, log, zone, files, watchers);
     conclude(alloc, prepared, out, err).code()
 }
 
@@ -167,6 +180,7 @@ pub fn made_command<F: Shelf, O: Sink, E: Sink>(
     _files: &mut F,
     out: &mut O,
     err: &mut E,
+    _watchers: &mut Vec<Box<dyn Watcher>>,
 ) -> u8
     requires { IsSome (made_of words.now) }
     ensures does { Does (plan_of words.now)
@@ -174,11 +188,13 @@ pub fn made_command<F: Shelf, O: Sink, E: Sink>(
           files = record { contents = F.contents _files.old; faults = F.faults _files.old };
           out = record { text = O.taken out.old; faults = O.faults out.old };
           err = record { text = E.taken err.old; faults = E.faults err.old };
+          watchers = map (λ b. watched b) _watchers.old.items;
         })
         (record {
           files = record { contents = F.contents _files.new; faults = F.faults _files.new };
           out = record { text = O.taken out.new; faults = O.faults out.new };
           err = record { text = E.taken err.new; faults = E.faults err.new };
+          watchers = map (λ b. watched b) _watchers.new.items;
         })
         result }
     // Nothing can be wrong with the words and with files.
@@ -202,6 +218,7 @@ pub fn replay_command<R: Threads + Wait + Sync, F: Shelf, O: Sink, E: Sink, G: G
     out: &mut O,
     err: &mut E,
     gate: &G,
+    watchers: &mut Vec<Box<dyn Watcher>>,
 ) -> u8
     requires { IsSome (replay_of words.now) }
     ensures { Does (plan_of words.now)
@@ -209,17 +226,19 @@ pub fn replay_command<R: Threads + Wait + Sync, F: Shelf, O: Sink, E: Sink, G: G
           files = record { contents = F.contents files.old; faults = F.faults files.old };
           out = record { text = O.taken out.old; faults = O.faults out.old };
           err = record { text = E.taken err.old; faults = E.faults err.old };
+          watchers = map (λ b. watched b) watchers.old.items;
         })
         (record {
           files = record { contents = F.contents files.new; faults = F.faults files.new };
           out = record { text = O.taken out.new; faults = O.faults out.new };
           err = record { text = E.taken err.new; faults = E.faults err.new };
+          watchers = map (λ b. watched b) watchers.new.items;
         })
         result }
 {
     let Some((name, log, job)) = read_replay(words) else {
         unreachable!()
     };
-    let prepared = prepare_replay(rt, alloc, name, log, job, files, gate);
+    let prepared = prepare_replay(rt, alloc, name, log, job, files, gate, watchers);
     conclude(alloc, prepared, out, err).code()
 }

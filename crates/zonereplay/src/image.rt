@@ -1,4 +1,4 @@
-ghost use Rattle.std.specs.Prelude.{◌≡◌, ◌<◌, length, None, IfSome};
+ghost use Rattle.std.specs.Prelude.{◌≡◌, ◌<◌, length, None, IfSome, map};
 ghost use Rattle.std.specs.List.{position};
 ghost use Rattle.zone_config.specs.Conditions.{IsConfig};
 ghost use Rattle.zone_config.specs.Configuration.{is_zone_called};
@@ -13,6 +13,7 @@ use decision_text::name_of;
 use std::alloc::Global;
 use zone_config::{Config, ZoneSpec};
 use zone_outside::{Shelf, Text};
+use zone_watch::Watcher;
 
 /// The rule that a zone that is named is one of the configuration.
 const NO_ZONE: u32 = 11;
@@ -33,16 +34,19 @@ fn read_image<F: Shelf>(
     zone: &Text,
     log: &Text,
     files: &mut F,
+    watchers: &mut Vec<Box<dyn Watcher>>,
 ) -> Result<Text, Stop>
     requires config { IsConfig config.now }
     requires given { refused_line config.now.zones ≡ None }
     ensures { Prepares (image_log log.now zone.now config.now)
         (record { contents = F.contents files.old; faults = F.faults files.old })
         (record { contents = F.contents files.new; faults = F.faults files.new })
+        (map (λ b. watched b) watchers.old.items)
+        (map (λ b. watched b) watchers.new.items)
         result }
 {
     match zone_number(config.zones.as_slice(), zone.bytes()) {
-        Some(zone) => read_requests(alloc, config, Wanted::Words { zone }, log, files),
+        Some(zone) => read_requests(alloc, config, Wanted::Words { zone }, log, files, watchers),
         None => Err(Stop::Refused(Refusal::Rule {
             line: 0,
             rule: NO_ZONE,
@@ -57,10 +61,13 @@ pub(crate) fn prepare_image<F: Shelf>(
     log: &Text,
     zone: &Text,
     files: &mut F,
+    watchers: &mut Vec<Box<dyn Watcher>>,
 ) -> Result<Text, Stop>
     ensures { Prepares (image_plan name.now log.now zone.now)
         (record { contents = F.contents files.old; faults = F.faults files.old })
         (record { contents = F.contents files.new; faults = F.faults files.new })
+        (map (λ b. watched b) watchers.old.items)
+        (map (λ b. watched b) watchers.new.items)
         result }
 {
     let text = match read_text(alloc, files, name) {
@@ -68,7 +75,7 @@ pub(crate) fn prepare_image<F: Shelf>(
         Err(stop) => return Err(stop),
     };
     match open_config(alloc, &text) {
-        Ok(config) => read_image(alloc, &config, zone, log, files),
+        Ok(config) => read_image(alloc, &config, zone, log, files, watchers),
         Err(stop) => Err(stop),
     }
 }

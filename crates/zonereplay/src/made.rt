@@ -11,6 +11,7 @@ ghost use Rattle.made_log.specs.Summary.{zone_lines};
 ghost use Rattle.zonereplay.specs.Told.{ShowsSummary};
 ghost use Rattle.zonereplay.specs.Plan.{made_plan};
 ghost use Rattle.zonereplay.specs.Devices.{Files};
+ghost use Rattle.zone_watch.specs.Watched.{Watched};
 ghost use Rattle.zonereplay.specs.Stages.{Prepares};
 
 use crate::replay::play;
@@ -67,7 +68,7 @@ fn write_made(alloc: Global, seed: u64, count: u32) -> Result<Text, NoMemory>
 /// they are.
 pub(crate) fn prepare_made(alloc: Global, seed: u64, count: u32) -> Result<Text, Stop>
     requires { count ≤ 131072 }
-    ensures { (files : Files) → Prepares (made_plan seed count) files files result }
+    ensures { (files : Files) (watchers : List Watched) → Prepares (made_plan seed count) files files watchers watchers result }
 {
     match write_made(alloc, seed, count) {
         Ok(written) => Ok(written),

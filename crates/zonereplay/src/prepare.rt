@@ -1,7 +1,9 @@
+ghost use Rattle.std.specs.Prelude.{List};
 ghost use Rattle.replay_log.specs.Keys.{keys_of};
 ghost use Rattle.zonereplay.specs.Jobs.{asked};
 ghost use Rattle.zonereplay.specs.Plan.{one_plan, one_run, check_plan, check_run};
 ghost use Rattle.zonereplay.specs.Devices.{Files};
+ghost use Rattle.zone_watch.specs.Watched.{Watched};
 ghost use Rattle.zonereplay.specs.Stages.{Configures, OpensConfig, Prepares, ReadsText};
 
 use crate::job::Job;
@@ -45,7 +47,7 @@ pub(crate) fn read_text<F: Shelf>(
 
 /// The text of `one` for a log's text. It leaves the files alone, whatever they are.
 fn run_log(alloc: Global, job: Job, text: &[u8]) -> Result<Text, Stop>
-    ensures { (files : Files) → Prepares (one_run (asked job) (keys_of text.now)) files files result }
+    ensures { (files : Files) (watchers : List Watched) → Prepares (one_run (asked job) (keys_of text.now)) files files watchers watchers result }
 {
     let keys = match read_keys(alloc, text) {
         Ok(keys) => keys,
@@ -67,10 +69,10 @@ pub(crate) fn prepare_one<F: Shelf>(
     log: &Text,
     files: &mut F,
 ) -> Result<Text, Stop>
-    ensures { Prepares (one_plan (asked job) log.now)
+    ensures { (watchers : List Watched) → Prepares (one_plan (asked job) log.now)
         (record { contents = F.contents files.old; faults = F.faults files.old })
         (record { contents = F.contents files.new; faults = F.faults files.new })
-        result }
+        watchers watchers result }
 {
     match read_text(alloc, files, log) {
         Ok(text) => run_log(alloc, job, &text),
@@ -113,7 +115,7 @@ pub(crate) fn open_config(alloc: Global, text: &[u8]) -> Result<Config, Stop>
 
 /// The text of `check` for a configuration's text. It leaves the files alone, whatever they are.
 fn run_check(alloc: Global, text: &[u8]) -> Result<Text, Stop>
-    ensures { (files : Files) → Prepares (check_run text.now) files files result }
+    ensures { (files : Files) (watchers : List Watched) → Prepares (check_run text.now) files files watchers watchers result }
 {
     let config = match open_config(alloc, text) {
         Ok(config) => config,
@@ -131,10 +133,10 @@ pub(crate) fn prepare_check<F: Shelf>(
     name: &Text,
     files: &mut F,
 ) -> Result<Text, Stop>
-    ensures { Prepares (check_plan name.now)
+    ensures { (watchers : List Watched) → Prepares (check_plan name.now)
         (record { contents = F.contents files.old; faults = F.faults files.old })
         (record { contents = F.contents files.new; faults = F.faults files.new })
-        result }
+        watchers watchers result }
 {
     match read_text(alloc, files, name) {
         Ok(text) => run_check(alloc, &text),

@@ -1,11 +1,13 @@
-ghost use Rattle.std.specs.Prelude.{ℕ, ◌≡◌, ◌<◌, ◌≤◌, length, None, IfOk};
+ghost use Rattle.std.specs.Prelude.{ℕ, ◌≡◌, ◌<◌, ◌≤◌, length, map, None, IfOk};
 ghost use Rattle.std.specs.List.{All};
 ghost use Rattle.zone_config.specs.Conditions.{IsConfig};
 ghost use Rattle.replay_log.specs.Limits.{IsLineOf};
 ghost use Rattle.replay_share.specs.Journals.{Serves};
 ghost use Rattle.replay_share.specs.Opening.{refused_line};
 ghost use Rattle.replay_share.specs.Share.{HasReplayed};
-ghost use Rattle.zonereplay.specs.Told.{Shows, ShowsReplay, ShowsImage};
+ghost use Rattle.zone_watch.specs.Notices.{notices_of};
+ghost use Rattle.zonereplay.specs.Told.{ShowsImage, Tells, Writes};
+ghost use Rattle.zonereplay.specs.Told.Told.{replay};
 ghost use Rattle.zonereplay.specs.Plan.{log_plan};
 ghost use Rattle.zonereplay.specs.Replays.{told_of, IsThere};
 ghost use Rattle.zonereplay.specs.Stages.{Prepares, ReadsLog};
@@ -19,6 +21,7 @@ use request_script::{CALLS_A_LINE, Decision};
 use std::alloc::Global;
 use zone_config::Config;
 use zone_outside::{NoMemory, Shelf, Text};
+use zone_watch::{Watcher, show_and_report};
 
 /// One worker, whose number is 0, has all lines.
 const ONE_WORKER: u32 = 1;
@@ -56,19 +59,41 @@ pub(crate) fn play(
     Ok((zones, decisions))
 }
 
-/// The text of a replay on one worker: what is decided of each line, and the history of each zone.
-fn write_histories(alloc: Global, config: &Config, lines: &[Line]) -> Result<Text, NoMemory>
+/// A text of a replay with the reports of the watchers that are left when they were shown what is decided of each line.
+/// `NoMemory`: the watchers may have been shown it.
+pub(crate) fn with_reports(
+    alloc: Global,
+    mut text: Vec<u8>,
+    lines: &[Line],
+    decisions: &[Decision],
+    watchers: &mut Vec<Box<dyn Watcher>>,
+) -> Result<Text, NoMemory>
+    ensures { Tells (notices_of lines.now decisions.now) (map (λ b. watched b) watchers.old.items) (map (λ b. watched b) watchers.new.items) text.items result }
+{
+    match show_and_report(alloc, &mut text, lines, decisions, watchers) {
+        Ok(()) => Ok(Text::from_vec(text)),
+        Err(NoMemory) => Err(NoMemory),
+    }
+}
+
+/// The text of a replay on one worker: what is decided of each line, the history of each zone, and the reports of the watchers.
+fn write_histories(
+    alloc: Global,
+    config: &Config,
+    lines: &[Line],
+    watchers: &mut Vec<Box<dyn Watcher>>,
+) -> Result<Text, NoMemory>
     requires config { IsConfig config.now }
     requires given { refused_line config.now.zones ≡ None }
     requires lines { All (IsLineOf (length config.now.locations)) lines.now }
     requires few { length lines.now ≤ 131072 }
-    ensures { IfOk result (λ text. ShowsReplay config.now 1 lines.now text) }
+    ensures { Writes (replay config.now 1 lines.now) (map (λ b. watched b) watchers.old.items) (map (λ b. watched b) watchers.new.items) result }
 {
     let (zones, decisions) = play(alloc, config, lines)?;
     let mut text = Vec::new(alloc);
     push_decisions(&mut text, config, lines, &decisions)?;
     push_zones(alloc, &mut text, config.zones.as_slice(), &zones)?;
-    Ok(Text::from_vec(text))
+    with_reports(alloc, text, lines, &decisions, watchers)
 }
 
 /// The text of the words of the zone of this number, after a replay on one worker.
@@ -97,16 +122,17 @@ fn write_wanted(
     config: &Config,
     wanted: Wanted,
     lines: &[Line],
+    watchers: &mut Vec<Box<dyn Watcher>>,
 ) -> Result<Text, NoMemory>
     requires config { IsConfig config.now }
     requires given { refused_line config.now.zones ≡ None }
     requires there { IsThere wanted config.now }
     requires lines { All (IsLineOf (length config.now.locations)) lines.now }
     requires few { length lines.now ≤ 131072 }
-    ensures { IfOk result (λ text. Shows (told_of wanted config.now lines.now) text) }
+    ensures { Writes (told_of wanted config.now lines.now) (map (λ b. watched b) watchers.old.items) (map (λ b. watched b) watchers.new.items) result }
 {
     match wanted {
-        Wanted::Histories => write_histories(alloc, config, lines),
+        Wanted::Histories => write_histories(alloc, config, lines, watchers),
         Wanted::Words { zone } => write_words(alloc, config, zone, lines),
     }
 }
@@ -142,6 +168,7 @@ pub(crate) fn read_requests<F: Shelf>(
     wanted: Wanted,
     log: &Text,
     files: &mut F,
+    watchers: &mut Vec<Box<dyn Watcher>>,
 ) -> Result<Text, Stop>
     requires config { IsConfig config.now }
     requires given { refused_line config.now.zones ≡ None }
@@ -149,13 +176,15 @@ pub(crate) fn read_requests<F: Shelf>(
     ensures { Prepares (log_plan log.now config.now (told_of wanted config.now))
         (record { contents = F.contents files.old; faults = F.faults files.old })
         (record { contents = F.contents files.new; faults = F.faults files.new })
+        (map (λ b. watched b) watchers.old.items)
+        (map (λ b. watched b) watchers.new.items)
         result }
 {
     let lines = match read_lines(alloc, config, log, files) {
         Ok(lines) => lines,
         Err(stop) => return Err(stop),
     };
-    match write_wanted(alloc, config, wanted, &lines) {
+    match write_wanted(alloc, config, wanted, &lines, watchers) {
         Ok(written) => Ok(written),
         Err(_) => Err(Stop::NoMemory),
     }

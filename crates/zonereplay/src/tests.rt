@@ -5,8 +5,9 @@ use std::sync::Wait;
 use std::test::Fail;
 use std::thread::Threads;
 use zone_outside::{MemFile, MemShelf, MemSink, MemText, Text};
+use zone_watch::Watcher;
 
-/// Runs these words with a shelf of these files, of whose opens these fail.
+/// Runs these words with a shelf of these files, of whose opens these fail, and nobody watching.
 pub(crate) fn run_words<R: AllocGlobal + Threads + Wait + Sync, G: Gate + Sync>(
     rt: &R,
     words: &[&str],
@@ -16,13 +17,28 @@ pub(crate) fn run_words<R: AllocGlobal + Threads + Wait + Sync, G: Gate + Sync>(
     out: &mut MemSink<'_>,
     err: &mut MemSink<'_>,
 ) -> Result<u8, Fail> {
+    let mut nobody = Vec::new(rt.alloc());
+    watch_words(rt, words, files, failing_opens, gate, out, err, &mut nobody)
+}
+
+/// The same with these watchers. All tests call `run` here.
+pub(crate) fn watch_words<R: AllocGlobal + Threads + Wait + Sync, G: Gate + Sync>(
+    rt: &R,
+    words: &[&str],
+    files: &[MemFile<'_>],
+    failing_opens: &[u64],
+    gate: &G,
+    out: &mut MemSink<'_>,
+    err: &mut MemSink<'_>,
+    watchers: &mut Vec<Box<dyn Watcher>>,
+) -> Result<u8, Fail> {
     let alloc = rt.alloc();
     let mut texts = Vec::new(alloc);
     for word in words {
         texts.push(Text::of(alloc, word.as_bytes())?)?;
     }
     let mut shelf = MemShelf::of(files, failing_opens);
-    Ok(run(rt, alloc, &texts, &mut shelf, out, err, gate))
+    Ok(run(rt, alloc, &texts, &mut shelf, out, err, gate, watchers))
 }
 
 /// Runs `one` at this rate with a shelf that has one text, named `log`.

@@ -1,7 +1,6 @@
-use Rattle.std.proofs.Common.{◌≡◌, ◌∙◌, ◌++◌, ◌+◌, ℕ, List, ap, subst, sym, suc, length, take, map, add-one, min, arith}
+use Rattle.std.proofs.Common.{◌∙◌, length}
 use Rattle.std.proofs.lemmas.List.{length_push}
 use Rattle.std.proofs.lemmas.Slice.Zip.{zip_turn, zip_end}
-use Rattle.zone_watch.specs.Notices.{notices_of}
 use Rattle.zone_watch.proofs.Counts.{notices-grow, notices-whole}
 use Rattle.zone_watch.proofs.notices.notices_of.Goals as goal
 

@@ -1,4 +1,3 @@
-use Rattle.std.proofs.Common.{arith}
 use Rattle.zone_watch.proofs.Counts.{raise-next}
 use Rattle.zone_watch.proofs.refused.raise.Goals as goal
 

@@ -5,5 +5,5 @@ use Rattle.zone_watch.proofs.show.show_all.Given as goal
 -- The list is what the notices so far have left.
 abbrev pub invariant-loop-notice : goal.invariant-loop-notice
 invariant-loop-notice g l =
-    map (λ b. (goal.Watcher-dyn g (b.vtable, b.value)).watched b.value) l.list.items
-    ≡ shown (take l.notice-index l.notices) (map (λ b. (goal.Watcher-dyn g (b.vtable, b.value)).watched b.value) l.initial.list.items)
+    map g.W.Watcher.watched l.list.items
+    ≡ shown (take l.notice-index l.notices) (map g.W.Watcher.watched l.initial.list.items)

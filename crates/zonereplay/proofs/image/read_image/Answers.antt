@@ -10,12 +10,12 @@ returns-in-Some g c =
     let before : Files = record { contents = g.F.Shelf.contents c.args.files.now; faults = g.F.Shelf.faults c.args.files.now } in
     let after : Files = record { contents = g.F.Shelf.contents c.read_requests.new.files; faults = g.F.Shelf.faults c.read_requests.new.files } in
     let config = c.args.config.now in
-    zone_prepares config.zones c.as_slice.result.now c.args.zone.now c.bytes.result.now c.in-Some.zone (λ (zone : ℕ). log_plan c.args.log.now config (λ lines. zone_words config zone lines)) before after c.read_requests.result
+    zone_prepares config.zones c.as_slice.result.now c.args.zone.now c.bytes.result.now c.in-Some.zone (λ (zone : ℕ). log_plan c.args.log.now config (λ lines. zone_words config zone lines)) before after _ _ c.read_requests.result
     c.bytes.ensures c.as_slice.ensures c.in-Some.ensures.number c.read_requests.ensures
 
 pub returns-in-None : goal.returns-in-None
 returns-in-None g c =
     let files : Files = record { contents = g.F.Shelf.contents c.args.files.now; faults = g.F.Shelf.faults c.args.files.now } in
     let config = c.args.config.now in
-    zone_stopped config.zones c.as_slice.result.now c.args.zone.now c.bytes.result.now (λ (zone : ℕ). log_plan c.args.log.now config (λ lines. zone_words config zone lines)) files
+    zone_stopped config.zones c.as_slice.result.now c.args.zone.now c.bytes.result.now (λ (zone : ℕ). log_plan c.args.log.now config (λ lines. zone_words config zone lines)) files _
     c.bytes.ensures c.as_slice.ensures c.in-None.ensures.number

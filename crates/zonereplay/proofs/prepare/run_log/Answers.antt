@@ -10,13 +10,13 @@ pub returns-in-Ok-text_of : goal.returns-in-Ok-text_of
 returns-in-Ok-text_of c =
     let job = asked c.args.job in
     let told = exactly (one_text job c.in-Ok.keys.items) in
-    λ files. record {
+    λ files watchers. record {
       files = record { kept = λ name. refl; later = λ name. omega arith };
       gives = (
         record {
           told = told;
           ends = subst (λ (p : Plan). Ends files.contents p (written told)) (sym (ap (one_run job) c.in-Ok.ensures.value)) refl;
-          shown = c.in-Ok-text_of.ensures;
+          shown = (c.in-Ok-text_of.ensures, refl);
         },
         λ name. refl,
       );

@@ -1,8 +1,7 @@
-use Rattle.std.proofs.Common.{ℕ, ◌*◌, ◌≤◌, List, [], length, ap, subst, arith}
+use Rattle.std.proofs.Common.{ℕ, ◌*◌, List, [], length, ap, subst, arith}
 use Rattle.zone_config.specs.declared.data.ZoneSpec.{ZoneSpec}
 use Rattle.replay_log.specs.declared.line.Line.{Line}
 use Rattle.replay_share.specs.Journals.{Serves}
-use Rattle.replay_share.specs.Replay.{lines_of}
 use Rattle.replay_share.specs.Share.{HasReplayed}
 use Rattle.replay_share.proofs.Alone.{lines_all}
 use Rattle.zonereplay.proofs.replay.play.Goals as goal

@@ -1,6 +1,3 @@
-use Rattle.std.proofs.Common.{List, subst}
-use Rattle.replay_log.specs.declared.line.Line.{Line}
-use Rattle.zonereplay.specs.Told.{Shows}
 use Rattle.zonereplay.specs.Plan.{workers_told}
 use Rattle.zonereplay.specs.Devices.{Files}
 use Rattle.zonereplay.proofs.LogLemmas.{lines_prepares, lines_too_many, lines_stopped}
@@ -10,18 +7,18 @@ pub returns-in-Err : goal.returns-in-Err
 returns-in-Err g c =
     let before : Files = record { contents = g.F.Shelf.contents c.args.files.now; faults = g.F.Shelf.faults c.args.files.now } in
     let after : Files = record { contents = g.F.Shelf.contents c.read_lines.new.files; faults = g.F.Shelf.faults c.read_lines.new.files } in
-    lines_stopped c.args.log.now c.args.config.now before after (workers_told c.args.job.workers c.args.job.words c.args.config.now) c.in-Err.stop c.in-Err.ensures
+    lines_stopped c.args.log.now c.args.config.now before after (workers_told c.args.job.workers c.args.job.words c.args.config.now) _ c.in-Err.stop c.in-Err.ensures
 
 pub returns-in-Ok-write_replay : goal.returns-in-Ok-write_replay
 returns-in-Ok-write_replay g c =
     let before : Files = record { contents = g.F.Shelf.contents c.args.files.now; faults = g.F.Shelf.faults c.args.files.now } in
     let after : Files = record { contents = g.F.Shelf.contents c.read_lines.new.files; faults = g.F.Shelf.faults c.read_lines.new.files } in
     let told = workers_told c.args.job.workers c.args.job.words c.args.config.now in
-    let shown = subst (λ (lines : List Line). Shows (told lines) c.in-Ok-write_replay.written) c.deref.ensures.value c.in-Ok-write_replay.ensures in
-    lines_prepares c.args.log.now c.args.config.now before after told c.in-Ok.lines c.in-Ok-write_replay.written c.in-Ok.ensures shown
+    lines_prepares c.args.log.now c.args.config.now before after told _ _ c.in-Ok.lines c.deref.result.now c.in-Ok-write_replay.written c.in-Ok.ensures c.deref.ensures.value c.in-Ok-write_replay.ensures
 
 pub returns : goal.returns
 returns g c =
     let before : Files = record { contents = g.F.Shelf.contents c.args.files.now; faults = g.F.Shelf.faults c.args.files.now } in
     let after : Files = record { contents = g.F.Shelf.contents c.read_lines.new.files; faults = g.F.Shelf.faults c.read_lines.new.files } in
-    lines_too_many c.args.log.now c.args.config.now before after (workers_told c.args.job.workers c.args.job.words c.args.config.now) c.in-Ok.lines c.in-Ok.ensures
+    let told = workers_told c.args.job.workers c.args.job.words c.args.config.now in
+    lines_too_many c.args.log.now c.args.config.now before after told _ _ c.in-Ok.lines c.deref.result.now c.in-Ok.ensures c.deref.ensures.value c.in-Err-write_replay.ensures
