@@ -1,9 +1,10 @@
 -- The ranges of a log of keys, from what its lines say.
-use Rattle.std.proofs.Common.{ℕ, ◌≡◌, ◌-◌, ◌^◌, ◌<◌, List, [], ◌∷◌, length, Option, Some, None, Result, Ok, Err, IfOk, arith, subst}
-use Rattle.std.specs.List.{All}
+use Rattle.std.proofs.Common.{ℕ, ◌≡◌, ◌∙◌, ◌-◌, ◌^◌, ◌<◌, Bool, true, false, not, ◌&&◌, eqb, List, [], ◌∷◌, length, Option, Some, None, Result, Ok, Err, IfOk, arith, ap, refl, subst}
+use Rattle.std.specs.List.{All, list_all}
+use denote.Ref.{Bor}
 use Rattle.std.specs.declared.vec.Vec.{Vec}
 use Rattle.std.specs.declared.alloc.Global.{Global}
-use Rattle.zone_outside.specs.Coded.{decoded}
+use Rattle.zone_outside.specs.Coded.{after, decoded, is_plain}
 use Rattle.zone_outside.specs.Numbers.{number_of}
 use Rattle.replay_log.specs.declared.fault.LogFault.{LogFault}
 use Rattle.replay_log.specs.declared.keys.KeyLine.{KeyLine}
@@ -12,6 +13,7 @@ use Rattle.replay_log.specs.Words.{or_kind}
 use Rattle.replay_log.specs.Keys.{some_key, key_of, with_key, at_key, key_words, key_line, keys_of}
 use Rattle.replay_log.specs.Limits.{IsKeyLine}
 use Rattle.replay_log.specs.Reading.{GivesLines}
+use Rattle.replay_log.specs.Next.{GivesNext}
 use Rattle.replay_log.proofs.LimitLemmas.{same_Ok, then_ok, kind_ok, number_below, lines_all}
 
 -- a key that is read has a byte
@@ -43,3 +45,39 @@ keys_limits text lines is = lines_all key_line IsKeyLine (λ n line found some l
 pub limits_of_keys : (text : List ℕ) (result : Result (Vec KeyLine Global) LogFault) → GivesLines (keys_of text) result → IfOk result (λ lines. All IsKeyLine lines.items)
 limits_of_keys text (Ok lines) said = keys_limits text lines.items said
 limits_of_keys text (Err fault) said = tt
+
+-- ---- words without escapes
+
+-- two tests that are true together
+both : (a b : Bool) → (a && b) ≡ true → (a ≡ true) × (b ≡ true)
+both true b is = (refl, is)
+both false b is = absurd (cc)
+
+not_false : (b : Bool) → not b ≡ true → b ≡ false
+not_false true is = absurd (cc)
+not_false false is = refl
+
+-- a byte that stands for itself
+itself : (c : ℕ) (rest : List ℕ) → eqb c 37 ≡ false → is_plain c ≡ true → decoded (c ∷ rest) ≡ after (c ∷ []) (decoded rest)
+itself c [] other plain = rw (other, plain) refl
+itself c (d ∷ []) other plain = rw (other, plain) refl
+itself c (d ∷ e ∷ rest) other plain = rw (other, plain) refl
+
+plain_decoded : (word : List ℕ) → list_all (λ c. is_plain c && not (eqb c 37)) word ≡ true → decoded word ≡ Some word
+plain_decoded [] all = refl
+plain_decoded (c ∷ rest) all =
+    let here = both (is_plain c && not (eqb c 37)) (list_all (λ c. is_plain c && not (eqb c 37)) rest) all in
+    let parts = both (is_plain c) (not (eqb c 37)) here.0 in
+    itself c rest (not_false (eqb c 37) parts.1) parts.0 ∙ ap (after (c ∷ [])) (plain_decoded rest here.1)
+
+-- a word of bytes that stand for themselves is the key
+pub plain_key : (word : List ℕ) → 0 < length word → list_all (λ c. is_plain c && not (eqb c 37)) word ≡ true → key_of word ≡ Ok word
+plain_key [] some all = absurd (omega (arith, some))
+plain_key (c ∷ rest) some all = ap (λ found. or_kind 12 (some_key found)) (plain_decoded (c ∷ rest) all)
+
+-- ---- one key after another
+
+-- the next key is in its ranges
+pub next_limits : (n : ℕ) (rest : List ℕ) (result : Result (KeyLine × Bor (List ℕ)) LogFault) → GivesNext key_line n rest result → IfOk result (λ next. IsKeyLine next.0)
+next_limits n rest (Ok next) is = line_limits (parts 32 is.front) next.0 is.said
+next_limits n rest (Err fault) is = tt

@@ -1,5 +1,5 @@
 mod PartLemmas
-mod LineLemmas
+pub mod LineLemmas
 mod WordLemmas
 mod LocationLemmas
 mod PairLemmas

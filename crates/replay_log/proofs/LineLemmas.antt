@@ -2,6 +2,7 @@
 use Rattle.std.proofs.Common.{ℕ, ◌≡◌, ◌+◌, ◌<◌, ◌≤◌, cond, ltb, List, [], ◌∷◌, ◌++◌, Result, Ok, Err, ap, sym, ◌∙◌, refl, append_assoc}
 use Rattle.std.proofs.lemmas.Bool.{le-ltb, lt-ltb}
 use Rattle.replay_log.specs.Lines.{Fault, parts, before_rest, lines_from}
+use Rattle.replay_log.specs.Next.{IsNext}
 use Rattle.replay_log.proofs.PartLemmas.{some_part}
 
 module _ {L : Type 0} (says : ℕ → List ℕ → Result L ℕ) where
@@ -29,3 +30,9 @@ after_lines lines (Err fault) = Err fault
 pub after_more : {L : Type 0} → (lines : List L) (n : ℕ) (line : L) (rest : Result (List L) Fault) → after_lines lines (before_rest n (Ok line) rest) ≡ after_lines (lines ++ line ∷ []) rest
 after_more lines n line (Ok more) = ap Ok (sym (append_assoc lines (line ∷ []) more))
 after_more lines n line (Err fault) = refl
+
+-- the first line of what is left, before those behind it
+pub next_lines : {L : Type 0} → (says : ℕ → List ℕ → Result L ℕ) (n : ℕ) (rest : List ℕ) (line : L) (tail : List ℕ) → IsNext says n rest line tail
+    → lines_from says n (parts 10 rest) ≡ before_rest n (Ok line) (lines_from says (n + 1) (parts 10 tail))
+next_lines says n rest line tail is =
+    ap (lines_from says n) is.cut ∙ line_counts says n is.front tail is.counts ∙ ap (λ l. before_rest n l (lines_from says (n + 1) (parts 10 tail))) is.said

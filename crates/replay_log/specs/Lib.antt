@@ -4,3 +4,4 @@ pub mod Requests
 pub mod Keys
 pub mod Limits
 pub mod Reading
+pub mod Next

@@ -1,11 +1,13 @@
-ghost use Rattle.std.specs.Prelude.{◌≡◌, ◌≤◌, length, IfOk};
-ghost use Rattle.std.specs.List.{All};
+ghost use Rattle.std.specs.Prelude.{◌≡◌, ◌==◌, ◌<◌, ◌≤◌, ◌&&◌, not, length, IfOk};
+ghost use Rattle.std.specs.List.{All, list_all};
+ghost use Rattle.zone_outside.specs.Coded.{is_plain};
 ghost use Rattle.replay_log.specs.Keys.{key_of, at_key, key_line, keys_of};
 ghost use Rattle.replay_log.specs.Limits.{IsKeyLine};
 ghost use Rattle.replay_log.specs.Reading.{Tells, GivesLines, words_left};
+ghost use Rattle.replay_log.specs.Next.{GivesNext};
 
 use crate::fault::{LineFault, LogFault};
-use crate::lines::{LineForm, read_lines};
+use crate::lines::{LineForm, next_line, read_lines};
 use crate::words::{MOST_MOMENT, at_end, next_word};
 use std::alloc::Global;
 use zone_key::Key;
@@ -24,10 +26,21 @@ pub struct KeyLine {
 #[derive(Drop)]
 struct KeyForm;
 
+/// Whether each byte of a word stands for itself in coded text.
+fn are_plain(word: &[u8]) -> bool
+    ensures { result ≡ list_all (λ c. is_plain c && not (c == 37)) word.now }
+{
+    word.iter()
+        .all(|byte| *byte >= 0x21 && *byte <= 0x7e && *byte != b'%')
+}
+
 /// The key that a word spells in coded text.
 fn read_key(alloc: Global, word: &[u8]) -> Result<Key, LineFault>
     ensures { Tells (key_of word.now) result }
 {
+    if !word.is_empty() && are_plain(word) {
+        return Ok(Key::of(alloc, word)?);
+    }
     match decode(alloc, word) {
         Ok(bytes) => {
             if bytes.is_empty() {
@@ -78,4 +91,18 @@ pub fn read_keys(alloc: Global, text: &[u8]) -> Result<Vec<KeyLine>, LogFault>
     ensures few { IfOk result (λ lines. length lines.items ≤ 131072) }
 {
     read_lines(alloc, text, &KeyForm)
+}
+
+/// The first key of what is left of a log of keys, whose line has this number in the log, and what is left behind it. So a
+/// log can be gone over with one key at a time in memory. The faults are those of `read_keys`.
+pub fn next_key(
+    alloc: Global,
+    number: u32,
+    rest: &[u8],
+) -> Result<(KeyLine, &[u8]), LogFault>
+    requires { 0 < length rest.now }
+    ensures value { GivesNext key_line number rest.now result }
+    ensures limits { IfOk result (λ next. IsKeyLine next.0) }
+{
+    next_line(alloc, number, rest, &KeyForm)
 }

@@ -11,7 +11,7 @@ mod requests;
 mod words;
 
 pub use fault::{LineFault, LogFault};
-pub use keys::{KeyLine, read_keys};
+pub use keys::{KeyLine, next_key, read_keys};
 pub use line::{Event, Line};
 pub use lines::{LineForm, read_lines};
 pub use requests::read_log;

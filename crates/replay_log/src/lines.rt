@@ -1,6 +1,7 @@
-ghost use Rattle.std.specs.Prelude.{◌≡◌, ◌≤◌, ℕ, List, Result, IfOk, length};
+ghost use Rattle.std.specs.Prelude.{◌≡◌, ◌<◌, ◌≤◌, ℕ, List, Result, IfOk, length};
 ghost use Rattle.replay_log.specs.Lines.{lines_of};
 ghost use Rattle.replay_log.specs.Reading.{Tells, GivesLines};
+ghost use Rattle.replay_log.specs.Next.{GivesNext};
 
 use crate::cut::cut;
 use crate::fault::{LineFault, LogFault};
@@ -22,6 +23,39 @@ pub trait LineForm {
         ensures { Tells (says self.now number line.now) result };
 }
 
+/// The first line of what is left of a log, which has this number in the log, and what is left behind it. The faults are
+/// those of `read_lines`.
+pub(crate) fn next_line<'a, F: LineForm>(
+    alloc: Global,
+    number: u32,
+    rest: &'a [u8],
+    form: &F,
+) -> Result<(F::Line, &'a [u8]), LogFault>
+    requires { 0 < length rest.now }
+    ensures { GivesNext (F.says form.now) number rest.now result }
+{
+    let Some((front, tail)) = cut(rest, b'\n') else {
+        return Err(LogFault::At {
+            line: u64::from(number),
+            kind: 1,
+        });
+    };
+    if number > MOST_LINES {
+        return Err(LogFault::At {
+            line: u64::from(number),
+            kind: 11,
+        });
+    }
+    match form.read(alloc, number, front) {
+        Ok(line) => Ok((line, tail)),
+        Err(LineFault::Kind(kind)) => Err(LogFault::At {
+            line: u64::from(number),
+            kind,
+        }),
+        Err(LineFault::NoMemory) => Err(LogFault::NoMemory),
+    }
+}
+
 /// The lines of a log, each ended by a line feed. It looks for each line feed once.
 ///
 /// `LogFault::At` comes exactly where a line is faulty: with the number of the first one, from 1, and the kind of
@@ -39,28 +73,8 @@ pub fn read_lines<F: LineForm>(
     let mut rest = text;
     let mut number = 1u32;
     while !rest.is_empty() {
-        let Some((front, tail)) = cut(rest, b'\n') else {
-            return Err(LogFault::At {
-                line: u64::from(number),
-                kind: 1,
-            });
-        };
-        if number > MOST_LINES {
-            return Err(LogFault::At {
-                line: u64::from(number),
-                kind: 11,
-            });
-        }
-        match form.read(alloc, number, front) {
-            Ok(line) => lines.push(line)?,
-            Err(LineFault::Kind(kind)) => {
-                return Err(LogFault::At {
-                    line: u64::from(number),
-                    kind,
-                });
-            }
-            Err(LineFault::NoMemory) => return Err(LogFault::NoMemory),
-        }
+        let (line, tail) = next_line(alloc, number, rest, form)?;
+        lines.push(line)?;
         rest = tail;
         number += 1;
     }

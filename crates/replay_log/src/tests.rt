@@ -1,4 +1,4 @@
-use crate::{Event, Line, LogFault, read_keys, read_log};
+use crate::{Event, Line, LogFault, next_key, read_keys, read_log};
 use sqlite_items::Items;
 use std::alloc::{AllocError, Global};
 use std::process::Abort;
@@ -229,6 +229,35 @@ fn tells_the_first_fault_of_keys(rt: HostRuntime) -> Result<(), Fail> {
                 assert_eq!(rt; keys[0].key.bytes(), b"a b".as_slice());
             }
             Err(fault) => assert_eq!(rt; fault, LogFault::At { line: 2, kind }, "{line}"),
+        }
+    }
+    Ok(())
+}
+
+/// The first key of what is left of a log: its moment, its bytes and what is behind it; or the kind of its fault.
+#[test]
+fn gives_the_next_key(rt: HostRuntime) -> Result<(), Fail> {
+    let rows: [(&[u8], u32, u32, u64, &[u8], &[u8]); 5] = [
+        (b"7 a%20b\n9 cd\n", 1, 0, 7, b"a b", b"9 cd\n"),
+        (b"9 cd\n", 131_072, 0, 9, b"cd", b""),
+        (b"9 cd\n", 131_073, 11, 0, b"", b""),
+        (b"5 %4\n7 a\n", 3, 12, 0, b"", b""),
+        (b"5 a", 4, 1, 0, b"", b""),
+    ];
+    for (rest, number, kind, moment, key, tail) in rows {
+        if rest.is_empty() {
+            continue;
+        }
+        match next_key(rt.alloc(), number, rest) {
+            Ok((line, left)) => {
+                assert_eq!(rt; (line.moment, kind), (moment, 0));
+                assert_eq!(rt; line.key.bytes(), key);
+                assert_eq!(rt; left, tail);
+            }
+            Err(fault) => {
+                let line = u64::from(number);
+                assert_eq!(rt; fault, LogFault::At { line, kind });
+            }
         }
     }
     Ok(())
