@@ -95,11 +95,7 @@ pub fn read_keys(alloc: Global, text: &[u8]) -> Result<Vec<KeyLine>, LogFault>
 
 /// The first key of what is left of a log of keys, whose line has this number in the log, and what is left behind it. So a
 /// log can be gone over with one key at a time in memory. The faults are those of `read_keys`.
-pub fn next_key(
-    alloc: Global,
-    number: u32,
-    rest: &[u8],
-) -> Result<(KeyLine, &[u8]), LogFault>
+pub fn next_key(alloc: Global, number: u32, rest: &[u8]) -> Result<(KeyLine, &[u8]), LogFault>
     requires { 0 < length rest.now }
     ensures value { GivesNext key_line number rest.now result }
     ensures limits { IfOk result (λ next. IsKeyLine next.0) }
