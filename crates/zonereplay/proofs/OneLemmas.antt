@@ -1,5 +1,5 @@
 -- The zone of `one` over the keys of a log.
-use Rattle.std.proofs.Common.{ℕ, ◌≡◌, ◌+◌, ◌<◌, ◌≤◌, ◌^◌, true, cond, List, [], ◌∷◌, ◌++◌, length, Option, Some, None, arith, ap, sym, subst, ◌∙◌, refl, length-append, append_assoc}
+use Rattle.std.proofs.Common.{ℕ, ◌≡◌, ◌+◌, ◌<◌, ◌≤◌, ◌^◌, true, cond, List, [], ◌∷◌, ◌++◌, length, Option, Some, None, Result, Ok, Err, arith, ap, sym, subst, ◌∙◌, refl, length-append, append_assoc, append-nil}
 use Rattle.std.specs.List.{concat}
 use Rattle.std.proofs.lemmas.Bool.{lt-ltb, le-ltb}
 use Rattle.zone_object.specs.declared.object.Entry.{Entry}
@@ -15,10 +15,16 @@ use Rattle.req_zone.specs.Object.{IsOpened, answer_of, zone_after, Permits, Read
 use Rattle.req_zone.specs.ObjectLaws.{ready-law}
 use Rattle.req_zone.specs.Proving.Answers.{answer-law}
 use Rattle.req_zone.specs.Lays.{Lays}
+use Rattle.replay_log.specs.declared.fault.LogFault.{LogFault}
+use Rattle.replay_log.specs.declared.fault.LogFault.TheVariants.{At, NoMemory}
 use Rattle.replay_log.specs.declared.keys.KeyLine.{KeyLine}
+use Rattle.replay_log.specs.Lines.{Fault, parts, before_rest, lines_from}
+use Rattle.replay_log.specs.Keys.{key_line as says_key, keys_of}
+use Rattle.replay_log.specs.Next.{GivesNext}
 use Rattle.zonereplay.specs.Words.{OneJob}
-use Rattle.zonereplay.specs.OneText.{delayed_excess, check_of, reply_to, after_key, key_line, key_lines}
+use Rattle.zonereplay.specs.OneText.{delayed_excess, check_of, reply_to, after_key, zone_of, key_line, key_lines, one_text}
 use Rattle.zonereplay.specs.Checking.{HasAnswered}
+use Rattle.zonereplay.specs.OneKeys.{TellsKeys}
 
 -- a zone that was just opened has answered nothing
 pub opened_answered : (zone : ReqWords) (s : ReqState) → IsOpened s → Lays zone s → HasAnswered zone s 0 s
@@ -92,3 +98,34 @@ pub text_more : (job : OneJob) (n : ℕ) (s : ReqState) (line : KeyLine) (lines 
 text_more job n s line lines text old new reply was is grew =
     let later = concat (key_lines job (n + 1) (after_key job s line) lines) in
     was ∙ ap (λ r. old ++ (key_line n job.rate r ++ later)) (sym is) ∙ sym (append_assoc old (key_line n job.rate reply) later) ∙ ap (λ (t : List ℕ). t ++ later) (sym grew)
+
+-- ---- a log, key by key
+
+-- the log leads to this text and to what is left of it, from the n-th line on in a zone of this state
+abbrev pub Leads : OneJob → Result (List KeyLine) Fault → ℕ → ReqState → Result (List KeyLine) Fault → List ℕ → Type 0
+Leads job said n s (Ok left) text = (keys : List KeyLine) × (said ≡ Ok keys) × (one_text job keys ≡ text ++ concat (key_lines job n s left))
+Leads job said n s (Err fault) text = said ≡ Err fault
+
+-- from its beginning on
+pub leads_first : (job : OneJob) (said : Result (List KeyLine) Fault) → Leads job said 1 (zone_of job) said []
+leads_first job (Ok keys) = (keys, refl, refl)
+leads_first job (Err fault) = refl
+
+-- by one key more
+pub leads_more : (job : OneJob) (said : Result (List KeyLine) Fault) (n : ℕ) (s : ReqState) (line : KeyLine) (left : Result (List KeyLine) Fault) (old new : List ℕ) (reply : Option ReqReply)
+    → Leads job said n s (before_rest n (Ok line) left) old → reply ≡ reply_to job s line → new ≡ old ++ key_line n job.rate reply
+    → Leads job said (n + 1) (after_key job s line) left new
+leads_more job said n s line (Ok lines) old new reply was is grew = (was.0, was.1, text_more job n s line lines (one_text job was.0) old new reply was.2 is grew)
+leads_more job said n s line (Err fault) old new reply was is grew = was
+
+-- to its end
+pub leads_end : (job : OneJob) (log : List ℕ) (n : ℕ) (s : ReqState) (rest text : List ℕ) → length rest ≡ 0
+    → Leads job (keys_of log) n s (lines_from says_key n (parts 10 rest)) text → TellsKeys job log (Ok text)
+leads_end job log n s [] text none was = (was.0, was.1, sym (was.2 ∙ append-nil text))
+leads_end job log n s (c ∷ cs) text none was = absurd (omega (arith, none))
+
+-- or to its first fault
+pub leads_fault : (job : OneJob) (log : List ℕ) (n : ℕ) (s : ReqState) (rest text : List ℕ) (fault : LogFault)
+    → Leads job (keys_of log) n s (lines_from says_key n (parts 10 rest)) text → GivesNext says_key n rest (Err fault) → TellsKeys job log (Err fault)
+leads_fault job log n s rest text (At line kind) was is = subst (λ (left : Result (List KeyLine) Fault). Leads job (keys_of log) n s left text) is was
+leads_fault job log n s rest text NoMemory was is = tt

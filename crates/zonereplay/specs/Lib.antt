@@ -1,6 +1,7 @@
 pub mod Words
 pub mod OneText
 pub mod Checking
+pub mod OneKeys
 pub mod Statuses
 pub mod Stops
 pub mod Told

@@ -1,18 +1,18 @@
-ghost use Rattle.std.specs.Prelude.{◌≡◌, ◌+◌, ◌<◌, ◌^◌, ℕ, IfOk, IfSome, length, ◌≤◌};
+ghost use Rattle.std.specs.Prelude.{◌≡◌, ◌+◌, ◌<◌, ◌^◌, ℕ, IfOk, IfSome, ◌≤◌};
 ghost use Rattle.req_zone.specs.Amount.{greatest_burst};
 ghost use Rattle.zonereplay.specs.Words.{OneJob};
-ghost use Rattle.std.specs.List.{All};
 ghost use Rattle.req_zone.specs.declared.state.ReqState.{ReqState};
 ghost use Rattle.req_zone.specs.Object.{IsOpened};
 ghost use Rattle.req_zone.specs.Lays.{Lays};
 ghost use Rattle.zonereplay.specs.Jobs.{asked};
-ghost use Rattle.zonereplay.specs.OneText.{delayed_excess, reply_to, after_key, zone_of, one_text};
+ghost use Rattle.zonereplay.specs.OneText.{delayed_excess, reply_to, after_key, zone_of};
 ghost use Rattle.zonereplay.specs.Checking.{HasAnswered};
+ghost use Rattle.zonereplay.specs.OneKeys.{TellsKeys};
 ghost use Rattle.replay_log.specs.Limits.{IsKeyLine};
 
 use crate::job::Job;
 use crate::text::push_line;
-use replay_log::KeyLine;
+use replay_log::{KeyLine, LogFault, next_key};
 use req_zone::{OpenFault, ReqCall, ReqReply, ReqSpec, ReqZone};
 use std::alloc::Global;
 use zone_object::apply_uncounted;
@@ -23,9 +23,6 @@ const PAGE_SHIFT: u32 = 12;
 
 /// The most bytes of a key that a zone takes.
 const MOST_KEY: u64 = 65_535;
-
-/// The bytes that a line of `one` takes, but where its numbers are large.
-const LINE_BYTES: usize = 24;
 
 /// The request zone `one` of a job, without entries.
 fn open_zone(alloc: Global, job: Job) -> Result<ReqZone, NoMemory>
@@ -66,18 +63,22 @@ fn check(zone: &mut ReqZone, burst: u64, line: KeyLine) -> Option<ReqReply>
     Some(apply_uncounted(zone, 0, &call))
 }
 
-/// The text of `one` for the keys of a log, which are checked one after another in a fresh zone.
-pub(crate) fn text_of(alloc: Global, job: Job, keys: Vec<KeyLine>) -> Result<Text, NoMemory>
-    requires limits { All IsKeyLine keys.items }
-    requires few { length keys.items ≤ 131072 }
-    ensures { IfOk result (λ text. text ≡ one_text (asked job) keys.items) }
+/// The text of `one` for a log of keys, which are read and checked one after another in a fresh zone; or the log's first
+/// fault.
+pub(crate) fn text_of(alloc: Global, job: Job, log: &[u8]) -> Result<Text, LogFault>
+    ensures { TellsKeys (asked job) log.now result }
 {
-    let mut zone = open_zone(alloc, job)?;
-    let mut text = Vec::with_capacity(alloc, keys.len() * LINE_BYTES)?;
-    let mut number = 1u64;
-    for line in keys {
+    let Ok(mut zone) = open_zone(alloc, job) else {
+        return Err(LogFault::NoMemory);
+    };
+    let mut text = Vec::with_capacity(alloc, log.len())?;
+    let mut rest = log;
+    let mut number = 1u32;
+    while !rest.is_empty() {
+        let (line, tail) = next_key(alloc, number, rest)?;
         let reply = check(&mut zone, job.burst, line);
-        push_line(&mut text, number, job.rate, reply)?;
+        push_line(&mut text, u64::from(number), job.rate, reply)?;
+        rest = tail;
         number += 1;
     }
     Ok(Text::from_vec(text))

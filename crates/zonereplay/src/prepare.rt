@@ -11,7 +11,7 @@ use crate::one::text_of;
 use crate::stop::{Refusal, Stop};
 use decision_text::check_text;
 use directive_text::{TextFault, read};
-use replay_log::{LogFault, read_keys};
+use replay_log::LogFault;
 use replay_share::refused_line;
 use std::alloc::Global;
 use zone_config::{Config, ConfigFault, config_of};
@@ -49,16 +49,10 @@ pub(crate) fn read_text<F: Shelf>(
 fn run_log(alloc: Global, job: Job, text: &[u8]) -> Result<Text, Stop>
     ensures { (files : Files) (watchers : List Watched) → Prepares (one_run (asked job) (keys_of text.now)) files files watchers watchers result }
 {
-    let keys = match read_keys(alloc, text) {
-        Ok(keys) => keys,
-        Err(LogFault::At { line, kind }) => {
-            return Err(Stop::Refused(Refusal::Log { line, kind }));
-        }
-        Err(LogFault::NoMemory) => return Err(Stop::NoMemory),
-    };
-    match text_of(alloc, job, keys) {
+    match text_of(alloc, job, text) {
         Ok(written) => Ok(written),
-        Err(_) => Err(Stop::NoMemory),
+        Err(LogFault::At { line, kind }) => Err(Stop::Refused(Refusal::Log { line, kind })),
+        Err(LogFault::NoMemory) => Err(Stop::NoMemory),
     }
 }
 

@@ -1,59 +1,52 @@
-use Rattle.std.proofs.Common.{◌≡◌, ◌+◌, ◌<◌, ◌^◌, ◌++◌, ◌∷◌, List, length, refl, subst, arith}
-use Rattle.std.specs.List.{All, concat}
-use Rattle.std.specs.Vec.Iter.{into_iter_items}
-use Rattle.std.proofs.lemmas.List.Elements.{All-head, All-tail}
+use Rattle.std.proofs.Common.{ℕ, ◌≡◌, ◌+◌, ◌<◌, ◌^◌, ◌++◌, List, Result, length, refl, subst, arith}
+use Rattle.std.proofs.lemmas.Bool.Decides.{nat_tests}
 use Rattle.replay_log.specs.declared.keys.KeyLine.{KeyLine}
+use Rattle.replay_log.specs.Lines.{Fault, parts, lines_from}
+use Rattle.replay_log.specs.Keys.{key_line, keys_of}
+use Rattle.replay_log.proofs.LineLemmas.{next_lines}
 use Rattle.zonereplay.specs.Jobs.{asked}
-use Rattle.zonereplay.specs.OneText.{zone_of, after_key, key_lines, one_text}
-use Rattle.replay_log.specs.Limits.{IsKeyLine}
-use Rattle.zonereplay.proofs.OneLemmas.{opened_answered, answered_still, text_more}
+use Rattle.zonereplay.specs.OneText.{zone_of, after_key, key_line as line_of}
+use Rattle.zonereplay.proofs.OneLemmas.{Leads, opened_answered, answered_still, leads_first, leads_more, leads_end}
 use Rattle.zonereplay.proofs.one.text_of.Goals as goal
 
-pub loop-line-init : goal.loop-line-init
-loop-line-init c =
-    let start = zone_of (asked c.args.job) in
-    let items : into_iter_items c.into_iter-line-iterator.result ≡ c.args.keys.items = c.into_iter-line-iterator.ensures.into_iter_gives.0 in
-    let zone = c.in_ok-zone.ensures in
-    let none = opened_answered c.in_ok-zone.zone start zone.1 zone.0 in
+pub loop-rest-init : goal.loop-rest-init
+loop-rest-init c =
+    let job = asked c.args.job in
+    let start = zone_of job in
+    let zone = c.in-Ok.ensures in
     record {
-      can = tt;
-      finite = tt;
-      limits = rw items c.requires.limits;
-      numbered = rw items (omega arith);
-      answered = (start, answered_still c.in_ok-zone.zone start start 0 none, rw c.in_ok-text.ensures.items (rw items refl));
+      counted = omega arith;
+      answered = (start, answered_still c.in-Ok.zone start start 0 (opened_answered c.in-Ok.zone start zone.1 zone.0), rw c.in_ok-text.ensures.items (leads_first job (keys_of c.args.log.now)));
     }
 
 pub check-reply-requires-clause-known : goal.check-reply-requires-clause-known
 check-reply-requires-clause-known c = (asked c.args.job, refl, c.args.job.burst_in_limits)
 
-pub check-reply-requires-clause-limits : goal.check-reply-requires-clause-limits
-check-reply-requires-clause-limits c =
-    let limits : All IsKeyLine (c.in-Some.line ∷ into_iter_items c.next.new.self) = subst (All IsKeyLine) c.in-Some.ensures.steps.0 c.loop-line.invariant.limits in
-    All-head IsKeyLine c.in-Some.line (into_iter_items c.next.new.self) limits
-
-pub loop-line-preserved : goal.loop-line-preserved
-loop-line-preserved c =
-    let a = c.loop-line.invariant.answered in
+pub loop-rest-preserved : goal.loop-rest-preserved
+loop-rest-preserved c =
+    let a = c.loop-rest.invariant.answered in
     let job = asked c.args.job in
     let start = zone_of job in
-    let n = c.loop-line.number in
-    let line = c.in-Some.line in
-    let rest = into_iter_items c.next.new.self in
-    let first = c.in-Some.ensures.steps.0 in
-    let count : n + length (line ∷ rest) ≡ length c.args.keys.items + 1 = subst (λ (ls : List KeyLine). n + length ls ≡ length c.args.keys.items + 1) first c.loop-line.invariant.numbered in
-    let few = c.requires.few in
-    let below : n + 1 < 2 ^ 32 = omega (arith, count, few) in
-    let limits : All IsKeyLine (line ∷ rest) = subst (All IsKeyLine) first c.loop-line.invariant.limits in
-    let was : one_text job c.args.keys.items ≡ c.loop-line.text.items ++ concat (key_lines job n a.0 (line ∷ rest)) = subst (λ (ls : List KeyLine). one_text job c.args.keys.items ≡ c.loop-line.text.items ++ concat (key_lines job n a.0 ls)) first a.2 in
-    let reply = c.check-reply.ensures.reply job start a.0 n refl a.1 below in
+    let said = keys_of c.args.log.now in
+    let n = c.loop-rest.number in
+    let line = c.in_ok-line.line in
+    let tail = c.in_ok-line.tail.now in
+    let left = lines_from key_line (n + 1) (parts 10 tail) in
+    let counts = c.in_ok-line.ensures.value.counts in
+    let below : n + 1 < 2 ^ 32 = omega (arith, counts) in
+    let was = subst (λ (of : Result (List KeyLine) Fault). Leads job said n a.0 of c.loop-rest.text.items) (next_lines key_line n c.loop-rest.rest.now line tail c.in_ok-line.ensures.value) a.2 in
+    let pushed = subst (λ (k : ℕ). c.push_line.new.text.items ≡ c.loop-rest.text.items ++ line_of k job.rate c.check-reply.result) c.from.ensures c.in_ok-push_line.ensures in
     record {
-      can = tt;
-      finite = tt;
-      limits = All-tail IsKeyLine line rest limits;
-      numbered = omega (arith, count);
+      counted = omega (arith, counts);
       answered = (
         after_key job a.0 line,
         c.check-reply.ensures.answered job start a.0 n refl a.1 below,
-        text_more job n a.0 line rest (one_text job c.args.keys.items) c.loop-line.text.items c.push_line.new.text.items c.check-reply.result was reply c.in_ok-push_line.ensures,
+        leads_more job said n a.0 line left c.loop-rest.text.items c.push_line.new.text.items c.check-reply.result was (c.check-reply.ensures.reply job start a.0 n refl a.1 below) pushed,
       );
     }
+
+pub returns : goal.returns
+returns c =
+    let a = c.loop-rest.invariant.answered in
+    let none : length c.loop-rest.rest.now ≡ 0 = first_of (grind (arith, c.loop-rest-test.false, c.is_empty.ensures), grind (arith, nat_tests, c.loop-rest-test.false, c.is_empty.ensures)) in
+    rw c.from_vec.ensures (leads_end (asked c.args.job) c.args.log.now c.loop-rest.number a.0 c.loop-rest.rest.now c.loop-rest.text.items none a.2)

@@ -1,19 +1,19 @@
-use Rattle.std.proofs.Common.{◌≡◌, ◌+◌, ◌++◌, length}
-use Rattle.std.specs.List.{All, concat}
-use Rattle.std.specs.Vec.Iter.{into_iter_items}
+use Rattle.std.proofs.Common.{◌≤◌, length}
 use Rattle.req_zone.specs.declared.state.ReqState.{ReqState}
+use Rattle.replay_log.specs.Lines.{parts, lines_from}
+use Rattle.replay_log.specs.Keys.{key_line, keys_of}
 use Rattle.zonereplay.specs.Jobs.{asked}
-use Rattle.zonereplay.specs.OneText.{zone_of, one_text, key_lines}
+use Rattle.zonereplay.specs.OneText.{zone_of}
 use Rattle.zonereplay.specs.Checking.{HasAnswered}
-use Rattle.replay_log.specs.Limits.{IsKeyLine}
+use Rattle.zonereplay.proofs.OneLemmas.{Leads}
 use Rattle.zonereplay.proofs.one.text_of.Given as goal
 
-abbrev pub invariant-loop-line : goal.invariant-loop-line
-invariant-loop-line l = record {
-  can : (goal.iterator-loop-line).can_next l.line-iterator;
-  finite : (goal.iterator-loop-line).is_finite l.line-iterator;
-  limits : All IsKeyLine (into_iter_items l.line-iterator);
-  numbered : l.number + length (into_iter_items l.line-iterator) ≡ length l.fn.keys.items + 1;
+abbrev pub invariant-loop-rest : goal.invariant-loop-rest
+invariant-loop-rest l = record {
+  counted : l.number ≤ 131073;
   answered : (s : ReqState) × HasAnswered l.zone (zone_of (asked l.job)) l.number s
-      × (one_text (asked l.job) l.fn.keys.items ≡ l.text.items ++ concat (key_lines (asked l.job) l.number s (into_iter_items l.line-iterator)));
+      × Leads (asked l.job) (keys_of l.log) l.number s (lines_from key_line l.number (parts 10 l.rest)) l.text.items;
 }
+
+abbrev pub decreases-loop-rest : goal.decreases-loop-rest
+decreases-loop-rest l = length l.rest

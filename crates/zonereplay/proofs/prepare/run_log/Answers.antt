@@ -6,17 +6,18 @@ use Rattle.zonereplay.specs.Plan.End.{written}
 use Rattle.zonereplay.specs.Told.Told.{exactly}
 use Rattle.zonereplay.proofs.prepare.run_log.Goals as goal
 
-pub returns-in-Ok-text_of : goal.returns-in-Ok-text_of
-returns-in-Ok-text_of c =
+pub returns-in-Ok : goal.returns-in-Ok
+returns-in-Ok c =
     let job = asked c.args.job in
-    let told = exactly (one_text job c.in-Ok.keys.items) in
+    let said = c.in-Ok.ensures in
+    let told = exactly (one_text job said.0) in
     λ files watchers. record {
       files = record { kept = λ name. refl; later = λ name. omega arith };
       gives = (
         record {
           told = told;
-          ends = subst (λ (p : Plan). Ends files.contents p (written told)) (sym (ap (one_run job) c.in-Ok.ensures.value)) refl;
-          shown = (c.in-Ok-text_of.ensures, refl);
+          ends = subst (λ (p : Plan). Ends files.contents p (written told)) (sym (ap (one_run job) said.1)) refl;
+          shown = (said.2, refl);
         },
         λ name. refl,
       );
