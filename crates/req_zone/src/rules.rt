@@ -15,13 +15,14 @@ pub(crate) fn elapsed_ms(last: u64, now: u64) -> u64
     }
 }
 
-/// What a rate lets through in so many milliseconds, in thousandths of a request, rounded down.
+/// What a rate lets through in so many milliseconds, in thousandths of a request, rounded down. The seconds are taken by
+/// themselves, so that 64 bits hold each product.
 pub(crate) fn allowed_in(rate: u64, ms: u64) -> u64
     requires rate { IsRate rate }
     requires ms { IsMoment ms }
     ensures { result ≡ allowance rate ms }
 {
-    (u128::from(rate) * u128::from(ms) / 1000) as u64
+    rate * (ms / 1000) + rate * (ms % 1000) / 1000
 }
 
 /// The excess in thousandths of a request that one request more makes at the moment `now`, where an

@@ -13,3 +13,4 @@ mod Leveled
 mod Upstreams
 mod Outlined
 mod Answered
+mod ByName

@@ -7,6 +7,7 @@ pub use Rattle.config_rules.specs.Rules
 pub use Rattle.config_rules.specs.Answers
 pub mod Configuration
 pub mod Conditions
+pub mod Names
 pub mod Outline
 pub mod Reading
 pub mod Views

@@ -5,7 +5,7 @@ ghost use Rattle.zone_key.specs.Expr.{expr_of};
 ghost use Rattle.config_rules.specs.Words.{behind_scheme, first_of, host_of, is_called, is_host_byte, parameter};
 ghost use Rattle.config_rules.specs.Numbers.{rate_of, time_of, zone_size};
 ghost use Rattle.config_rules.specs.Rules.{is_primary};
-ghost use Rattle.zone_config.specs.Configuration.{arguments_called, conn_limit, conn_zone, declared_or_none, delay_of, delay_with, in_32_bits, is_backup_server, is_down_word, is_upstream_called, is_zone_called, level_from, level_of, method_of, value_of_number, number_or, own_zone, peer_zone, peers_named, peers_of, req_limit, req_zone, server_of, status_of, switch_of, upstream_of, zone_name, zone_number};
+ghost use Rattle.zone_config.specs.Configuration.{arguments_called, conn_limit, conn_zone, declared_or_none, delay_of, delay_with, in_32_bits, is_backup_server, is_down_word, is_zone_called, level_from, level_of, method_of, value_of_number, number_or, own_zone, peer_zone, peers_of, req_limit, req_zone, server_of, status_of, switch_of, upstream_of, zone_name, zone_number};
 ghost use Rattle.config_rules.specs.Views.{declared_now, place_now, sources_now};
 ghost use Rattle.zone_config.specs.Views.{delay_now};
 
@@ -13,6 +13,7 @@ use crate::data::{
     ConnData, ConnLimit, Level, MethodData, PeerData, ReqData, ReqLimit, ServerData, Upstream,
     ZoneSpec,
 };
+use crate::names::NamedUpstreams;
 use config_rules::numbers::{digits_of, rate_of, time_of, zone_size};
 use config_rules::place::inherited;
 use config_rules::words::{
@@ -526,35 +527,20 @@ fn host_of(word: &[u8]) -> Option<&[u8]>
     }
 }
 
-/// The upstream of a name.
-fn upstream_called<'a>(upstreams: &'a [Upstream], name: &[u8]) -> Option<&'a Upstream>
-    ensures { option_copied result ≡ find (is_upstream_called name.now) upstreams.now }
-{
-    upstreams
-        .iter()
-        .find(|upstream| is_same_name(upstream.name.bytes(), name))
-}
-
-/// The zone of the upstream of a name.
-fn peers_named(upstreams: &[Upstream], name: &[u8]) -> Option<u32>
-    ensures { result ≡ peers_named upstreams.now name.now }
-{
-    match upstream_called(upstreams, name) {
-        Some(upstream) => upstream.zone,
-        None => None,
-    }
-}
-
 /// The zone of the upstream to which a block passes its requests.
-fn peers_of(upstreams: &[Upstream], block: &[Directive]) -> Option<u32>
-    ensures { result ≡ peers_of upstreams.now block.now }
+fn peers_of(
+    alloc: Global,
+    upstreams: &NamedUpstreams<'_>,
+    block: &[Directive],
+) -> Result<Option<u32>, NoMemory>
+    ensures { IfOk result (λ zone. zone ≡ peers_of upstreams.now block.now) }
 {
     match arguments_called(b"proxy_pass", block) {
         Some(words) => match host_of(first_of(words)) {
-            Some(name) => peers_named(upstreams, name),
-            None => None,
+            Some(name) => upstreams.zone_of(alloc, name),
+            None => Ok(None),
         },
-        None => None,
+        None => Ok(None),
     }
 }
 
@@ -562,7 +548,7 @@ fn peers_of(upstreams: &[Upstream], block: &[Directive]) -> Option<u32>
 fn level_from(
     alloc: Global,
     zones: &[ZoneSpec],
-    upstreams: &[Upstream],
+    upstreams: &NamedUpstreams<'_>,
     directive: &Directive,
     sources: &Origins<'_>,
 ) -> Result<Level, NoMemory>
@@ -571,6 +557,7 @@ fn level_from(
     let name = location_name(alloc, arguments_of(directive))?;
     let req = req_limits(alloc, zones, sources.req)?;
     let conn = conn_limits(alloc, zones, sources.conn)?;
+    let peers = peers_of(alloc, upstreams, inner_of(directive))?;
     Ok(Level {
         name,
         req,
@@ -579,7 +566,7 @@ fn level_from(
         conn_status: status_of(b"limit_conn_status", sources.conn_status),
         req_dry: switch_of(b"limit_req_dry_run", sources.req_dry),
         conn_dry: switch_of(b"limit_conn_dry_run", sources.conn_dry),
-        peers: peers_of(upstreams, inner_of(directive)),
+        peers,
     })
 }
 
@@ -587,7 +574,7 @@ fn level_from(
 pub(crate) fn level_of(
     alloc: Global,
     zones: &[ZoneSpec],
-    upstreams: &[Upstream],
+    upstreams: &NamedUpstreams<'_>,
     place: &Spot<'_>,
 ) -> Result<Level, NoMemory>
     ensures { IfOk result (λ level. level ≡ level_of zones.now upstreams.now (place_now place.now)) }

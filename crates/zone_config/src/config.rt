@@ -10,6 +10,7 @@ ghost use Rattle.config_rules.specs.Views.{place_now};
 
 use crate::build::{level_of, upstream_of};
 use crate::data::{Config, Level, Upstream, ZoneSpec};
+use crate::names::NamedUpstreams;
 use crate::outline::{Outline, outline_of};
 use config_rules::place::kind_at;
 use config_rules::{ConfigFault, Kind, Spot, check_directives};
@@ -39,7 +40,7 @@ fn upstreams_of(
 fn server_among(
     alloc: Global,
     zones: &[ZoneSpec],
-    upstreams: &[Upstream],
+    upstreams: &NamedUpstreams<'_>,
     places: &[Spot<'_>],
 ) -> Result<Option<Level>, NoMemory>
     ensures { IfOk result (λ server. server ≡ server_among zones.now upstreams.now (map place_now places.now)) }
@@ -59,7 +60,7 @@ fn server_among(
 fn add_location(
     alloc: Global,
     zones: &[ZoneSpec],
-    upstreams: &[Upstream],
+    upstreams: &NamedUpstreams<'_>,
     levels: &mut Items<Level>,
     place: &Spot<'_>,
 ) -> Result<(), NoMemory>
@@ -75,7 +76,7 @@ fn add_location(
 fn locations_of(
     alloc: Global,
     zones: &[ZoneSpec],
-    upstreams: &[Upstream],
+    upstreams: &NamedUpstreams<'_>,
     places: &[Spot<'_>],
 ) -> Result<Items<Level>, NoMemory>
     ensures { IfOk result (λ levels. levels ≡ filter_map (location_at zones.now upstreams.now) (map place_now places.now)) }
@@ -89,6 +90,21 @@ fn locations_of(
     Ok(levels)
 }
 
+/// The level of the server, if it is among these places, and those of the locations.
+fn levels_of(
+    alloc: Global,
+    zones: &[ZoneSpec],
+    upstreams: &[Upstream],
+    places: &[Spot<'_>],
+) -> Result<(Option<Level>, Items<Level>), NoMemory>
+    ensures { IfOk result (λ levels. (levels.0 ≡ server_among zones.now upstreams.now (map place_now places.now)) × (levels.1 ≡ filter_map (location_at zones.now upstreams.now) (map place_now places.now))) }
+{
+    let upstreams = NamedUpstreams::of(alloc, upstreams)?;
+    let server = server_among(alloc, zones, &upstreams, places)?;
+    let locations = locations_of(alloc, zones, &upstreams, places)?;
+    Ok((server, locations))
+}
+
 /// The configuration of directives that break no rule.
 fn configured(alloc: Global, directives: &[Directive]) -> Result<Config, ConfigFault>
     ensures { MatchResult result (λ config. Configures (places_of directives.now) config)
@@ -97,13 +113,12 @@ fn configured(alloc: Global, directives: &[Directive]) -> Result<Config, ConfigF
     let outline = outline_of(alloc, directives)?;
     let Outline {
         zones,
-        upstreams: named,
+        upstreams: blocks,
         levels,
         passed,
     } = outline;
-    let upstreams = upstreams_of(alloc, zones.as_slice(), &named)?;
-    let server = server_among(alloc, zones.as_slice(), upstreams.as_slice(), &levels)?;
-    let locations = locations_of(alloc, zones.as_slice(), upstreams.as_slice(), &levels)?;
+    let upstreams = upstreams_of(alloc, zones.as_slice(), &blocks)?;
+    let (server, locations) = levels_of(alloc, zones.as_slice(), upstreams.as_slice(), &levels)?;
     match server {
         Some(server) => Ok(Config {
             zones,

@@ -4,6 +4,7 @@
 mod build;
 pub mod config;
 pub mod data;
+mod names;
 mod outline;
 
 pub use config::config_of;

@@ -26,12 +26,12 @@ returns-in-Some c =
           ∙ ap (λ ps. server_among zones upstreams (map place_now ps)) (sym c.deref-2.ensures.value)
           ∙ ap (λ (us : List Upstream). server_among zones us (map place_now c.deref-2.result.now)) (sym c.as_slice-3.ensures)
           ∙ ap (λ (zs : List ZoneSpec). server_among zs c.as_slice-3.result.now (map place_now c.deref-2.result.now)) (sym c.as_slice-2.ensures)
-          ∙ sym c.in_ok-server.ensures
+          ∙ sym c.in_ok-server.ensures.0
           ∙ c.in-Some.is;
-      locations = c.in_ok-locations.ensures
-          ∙ ap (λ (zs : List ZoneSpec). filter_map (location_at zs c.as_slice-5.result.now) (map place_now c.deref-3.result.now)) c.as_slice-4.ensures
-          ∙ ap (λ (us : List Upstream). filter_map (location_at zones us) (map place_now c.deref-3.result.now)) c.as_slice-5.ensures
-          ∙ ap (λ ps. filter_map (location_at zones upstreams) (map place_now ps)) c.deref-3.ensures.value
+      locations = c.in_ok-server.ensures.1
+          ∙ ap (λ (zs : List ZoneSpec). filter_map (location_at zs c.as_slice-3.result.now) (map place_now c.deref-2.result.now)) c.as_slice-2.ensures
+          ∙ ap (λ (us : List Upstream). filter_map (location_at zones us) (map place_now c.deref-2.result.now)) c.as_slice-3.ensures
+          ∙ ap (λ ps. filter_map (location_at zones upstreams) (map place_now ps)) c.deref-2.ensures.value
           ∙ ap (filter_map (location_at zones upstreams)) found.levels
           ∙ outlined_locations zones upstreams places;
       passed = found.passed;
@@ -55,5 +55,5 @@ returns-in-None c =
     ∙ ap (λ ps. server_among zones upstreams (map place_now ps)) (sym c.deref-2.ensures.value)
     ∙ ap (λ (us : List Upstream). server_among zones us (map place_now c.deref-2.result.now)) (sym c.as_slice-3.ensures)
     ∙ ap (λ (zs : List ZoneSpec). server_among zs c.as_slice-3.result.now (map place_now c.deref-2.result.now)) (sym c.as_slice-2.ensures)
-    ∙ sym c.in_ok-server.ensures
+    ∙ sym c.in_ok-server.ensures.0
     ∙ c.in-None.is
