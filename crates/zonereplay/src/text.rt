@@ -16,7 +16,7 @@ fn push_reply(text: &mut Vec<u8>, rate: u64, reply: ReqReply) -> Result<(), Allo
         ReqReply::Pass { excess } => {
             text.extend_from_slice(b" ok ")?;
             push_thousandths(text, excess)?;
-            text.extend_from_slice(b" ")?;
+            text.push(b' ')?;
             push_number(text, delay(excess, Allowed::Above { excess: 0 }, rate))
         }
         ReqReply::Busy { excess } => {
@@ -47,5 +47,6 @@ pub(crate) fn push_line(
         Some(reply) => push_reply(text, rate, reply)?,
         None => text.extend_from_slice(b" skip")?,
     }
-    text.extend_from_slice(b"\n")
+    text.push(b'\n')?;
+    Ok(())
 }
