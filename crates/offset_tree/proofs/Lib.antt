@@ -12,6 +12,7 @@ pub mod NodeLemmas
 pub mod InsertFixup
 pub mod Count
 pub mod KeyLemmas
+pub mod PartLemmas
 pub mod SearchLemmas
 pub mod DeleteFixup
 pub mod AttachLemmas
