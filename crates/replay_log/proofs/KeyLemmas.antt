@@ -1,6 +1,7 @@
 -- The ranges of a log of keys, from what its lines say.
-use Rattle.std.proofs.Common.{ℕ, ◌≡◌, ◌∙◌, ◌-◌, ◌^◌, ◌<◌, Bool, true, false, not, ◌&&◌, eqb, List, [], ◌∷◌, length, Option, Some, None, Result, Ok, Err, IfOk, arith, ap, refl, subst}
+use Rattle.std.proofs.Common.{ℕ, ◌≡◌, ◌∙◌, ◌-◌, ◌^◌, ◌<◌, Bool, true, false, not, ◌&&◌, eqb, List, [], ◌∷◌, length, Option, Some, None, Result, Ok, Err, IfOk, arith, ap, sym, refl, subst}
 use Rattle.std.specs.List.{All, list_all}
+use Rattle.std.proofs.lemmas.Bool.Decides.{nat_tests}
 use denote.Ref.{Bor}
 use Rattle.std.specs.declared.vec.Vec.{Vec}
 use Rattle.std.specs.declared.alloc.Global.{Global}
@@ -9,11 +10,12 @@ use Rattle.zone_outside.specs.Numbers.{number_of}
 use Rattle.replay_log.specs.declared.fault.LogFault.{LogFault}
 use Rattle.replay_log.specs.declared.keys.KeyLine.{KeyLine}
 use Rattle.replay_log.specs.Lines.{parts}
-use Rattle.replay_log.specs.Words.{or_kind}
+use Rattle.replay_log.specs.Words.{then_behind, or_kind}
 use Rattle.replay_log.specs.Keys.{some_key, key_of, with_key, at_key, key_words, key_line, keys_of}
 use Rattle.replay_log.specs.Limits.{IsKeyLine}
 use Rattle.replay_log.specs.Reading.{GivesLines}
 use Rattle.replay_log.specs.Next.{GivesNext}
+use Rattle.replay_log.proofs.PartLemmas.{both, whole_part}
 use Rattle.replay_log.proofs.LimitLemmas.{same_Ok, then_ok, kind_ok, number_below, lines_all}
 
 -- a key that is read has a byte
@@ -48,11 +50,6 @@ limits_of_keys text (Err fault) said = tt
 
 -- ---- words without escapes
 
--- two tests that are true together
-both : (a b : Bool) → (a && b) ≡ true → (a ≡ true) × (b ≡ true)
-both true b is = (refl, is)
-both false b is = absurd (cc)
-
 not_false : (b : Bool) → not b ≡ true → b ≡ false
 not_false true is = absurd (cc)
 not_false false is = refl
@@ -63,7 +60,7 @@ itself c [] other plain = rw (other, plain) refl
 itself c (d ∷ []) other plain = rw (other, plain) refl
 itself c (d ∷ e ∷ rest) other plain = rw (other, plain) refl
 
-plain_decoded : (word : List ℕ) → list_all (λ c. is_plain c && not (eqb c 37)) word ≡ true → decoded word ≡ Some word
+pub plain_decoded : (word : List ℕ) → list_all (λ c. is_plain c && not (eqb c 37)) word ≡ true → decoded word ≡ Some word
 plain_decoded [] all = refl
 plain_decoded (c ∷ rest) all =
     let here = both (is_plain c && not (eqb c 37)) (list_all (λ c. is_plain c && not (eqb c 37)) rest) all in
@@ -74,6 +71,18 @@ plain_decoded (c ∷ rest) all =
 pub plain_key : (word : List ℕ) → 0 < length word → list_all (λ c. is_plain c && not (eqb c 37)) word ≡ true → key_of word ≡ Ok word
 plain_key [] some all = absurd (omega (arith, some))
 plain_key (c ∷ rest) some all = ap (λ found. or_kind 12 (some_key found)) (plain_decoded (c ∷ rest) all)
+
+-- a byte that stands for itself is no space
+no_space : (x : ℕ) (same : Bool) → eqb x 32 ≡ same → (is_plain x && not (eqb x 37)) ≡ true → same ≡ false
+no_space x true is plain = absurd (grind (arith, nat_tests))
+no_space x false is plain = refl
+
+-- bytes that stand for themselves, up to the end of a line, are one word and the key
+pub plain_line : (moment : ℕ) (rest key : List ℕ) → 0 < length rest → list_all (λ c. is_plain c && not (eqb c 37)) rest ≡ true → key ≡ rest → at_key moment (parts 32 rest) ≡ Ok (record { moment = moment; key = key })
+plain_line moment rest key some all is =
+    ap (at_key moment) (whole_part (λ c. is_plain c && not (eqb c 37)) 32 rest (λ x plain. no_space x (eqb x 32) refl plain) all)
+    ∙ ap (λ found. then_behind found (λ k. with_key moment [] k)) (plain_key rest some all)
+    ∙ ap (λ (k : List ℕ). Ok (record { moment = moment; key = k })) (sym is)
 
 -- ---- one key after another
 

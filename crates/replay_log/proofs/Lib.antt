@@ -4,5 +4,6 @@ mod WordLemmas
 mod LocationLemmas
 mod PairLemmas
 mod NumberLemmas
+mod DigitLemmas
 mod LimitLemmas
 mod KeyLemmas

@@ -1,6 +1,5 @@
-ghost use Rattle.std.specs.Prelude.{◌≡◌, ◌==◌, ◌<◌, ◌≤◌, ◌&&◌, not, length, IfOk};
-ghost use Rattle.std.specs.List.{All, list_all};
-ghost use Rattle.zone_outside.specs.Coded.{is_plain};
+ghost use Rattle.std.specs.Prelude.{◌≡◌, ◌<◌, ◌≤◌, length, IfOk};
+ghost use Rattle.std.specs.List.{All};
 ghost use Rattle.replay_log.specs.Keys.{key_of, at_key, key_line, keys_of};
 ghost use Rattle.replay_log.specs.Limits.{IsKeyLine};
 ghost use Rattle.replay_log.specs.Reading.{Tells, GivesLines, words_left};
@@ -8,10 +7,11 @@ ghost use Rattle.replay_log.specs.Next.{GivesNext};
 
 use crate::fault::{LineFault, LogFault};
 use crate::lines::{LineForm, next_line, read_lines};
-use crate::words::{MOST_MOMENT, at_end, next_word};
+use crate::numbers::next_number;
+use crate::words::{MOST_MOMENT, are_plain, at_end, next_word};
 use std::alloc::Global;
 use zone_key::Key;
-use zone_outside::{DecodeFault, decode, read_number};
+use zone_outside::{DecodeFault, decode};
 
 /// A line of a log of keys.
 #[derive(Debug, Drop)]
@@ -26,21 +26,10 @@ pub struct KeyLine {
 #[derive(Drop)]
 struct KeyForm;
 
-/// Whether each byte of a word stands for itself in coded text.
-fn are_plain(word: &[u8]) -> bool
-    ensures { result ≡ list_all (λ c. is_plain c && not (c == 37)) word.now }
-{
-    word.iter()
-        .all(|byte| *byte >= 0x21 && *byte <= 0x7e && *byte != b'%')
-}
-
 /// The key that a word spells in coded text.
 fn read_key(alloc: Global, word: &[u8]) -> Result<Key, LineFault>
     ensures { Tells (key_of word.now) result }
 {
-    if !word.is_empty() && are_plain(word) {
-        return Ok(Key::of(alloc, word)?);
-    }
     match decode(alloc, word) {
         Ok(bytes) => {
             if bytes.is_empty() {
@@ -53,8 +42,8 @@ fn read_key(alloc: Global, word: &[u8]) -> Result<Key, LineFault>
     }
 }
 
-/// What the words behind a moment say.
-fn read_checked(alloc: Global, moment: u64, words: Option<&[u8]>) -> Result<KeyLine, LineFault>
+/// What the words behind a moment say, whatever they are.
+fn read_any_key(alloc: Global, moment: u64, words: Option<&[u8]>) -> Result<KeyLine, LineFault>
     ensures { Tells (at_key moment (words_left words.entry)) result }
 {
     let Some((word, words)) = next_word(words) else {
@@ -64,17 +53,27 @@ fn read_checked(alloc: Global, moment: u64, words: Option<&[u8]>) -> Result<KeyL
     at_end(KeyLine { moment, key }, words)
 }
 
+/// What the words behind a moment say. Plain bytes up to the line's end are the key as they stand.
+fn read_checked(alloc: Global, moment: u64, words: Option<&[u8]>) -> Result<KeyLine, LineFault>
+    ensures { Tells (at_key moment (words_left words.entry)) result }
+{
+    match words {
+        Some(rest) if !rest.is_empty() && are_plain(rest) => {
+            let key = Key::of(alloc, rest)?;
+            Ok(KeyLine { moment, key })
+        }
+        _ => read_any_key(alloc, moment, words),
+    }
+}
+
 impl LineForm for KeyForm {
     type Line = KeyLine;
 
     ghost says = { λ _. key_line };
 
     fn read(&self, alloc: Global, _number: u32, line: &[u8]) -> Result<KeyLine, LineFault> {
-        let Some((word, words)) = next_word(Some(line)) else {
-            return Err(LineFault::Kind(2));
-        };
-        match read_number(word, MOST_MOMENT) {
-            Some(moment) => read_checked(alloc, moment, words),
+        match next_number(Some(line), MOST_MOMENT) {
+            Some((moment, words)) => read_checked(alloc, moment, words),
             None => Err(LineFault::Kind(2)),
         }
     }

@@ -7,6 +7,7 @@ mod keys;
 mod line;
 mod lines;
 mod locations;
+mod numbers;
 mod requests;
 mod words;
 

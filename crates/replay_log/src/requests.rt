@@ -11,13 +11,13 @@ use crate::fault::{LineFault, LogFault};
 use crate::line::{Event, Line};
 use crate::lines::{LineForm, read_lines};
 use crate::locations::numbers_of;
+use crate::numbers::next_number;
 use crate::words::{MOST_MOMENT, at_end, cut_pair, next_word, read_address, read_level, read_pair};
 use sqlite_items::Items;
 use std::alloc::Global;
 use std::collections::BTreeMap;
 use zone_config::Config;
 use zone_key::{Pair, Vars};
-use zone_outside::read_number;
 
 /// The last connection that a log may name.
 const MOST_CONN: u64 = 4_294_967_295;
@@ -79,8 +79,8 @@ fn read_open(
     read_start(alloc, level, words)
 }
 
-/// What the words behind a connection say.
-fn read_event(
+/// What the words behind a connection say, whatever they are.
+fn read_any_event(
     alloc: Global,
     numbers: &BTreeMap<&[u8], u32>,
     words: Option<&[u8]>,
@@ -98,6 +98,24 @@ fn read_event(
     }
 }
 
+/// What the words behind a connection say. A line without a fault goes the short way.
+fn read_event(
+    alloc: Global,
+    numbers: &BTreeMap<&[u8], u32>,
+    words: Option<&[u8]>,
+) -> Result<Event, LineFault>
+    ensures { Tells (at_event (λ name. get_by (λ k. slice_cmp nat_cmp name k.now) numbers.now) (words_left words.entry)) result }
+{
+    match words {
+        Some([b'o', b'p', b'e', b'n', b' ', behind @ ..]) => {
+            read_open(alloc, numbers, Some(behind))
+        }
+        Some(b"fail") => Ok(Event::Fail),
+        Some(b"done") => Ok(Event::Done),
+        _ => read_any_event(alloc, numbers, words),
+    }
+}
+
 /// What the words behind a moment say.
 fn read_conn(
     alloc: Global,
@@ -108,10 +126,7 @@ fn read_conn(
 ) -> Result<Line, LineFault>
     ensures { Tells (at_conn (λ name. get_by (λ k. slice_cmp nat_cmp name k.now) numbers.now) number moment (words_left words.entry)) result }
 {
-    let Some((word, words)) = next_word(words) else {
-        return Err(LineFault::Kind(3));
-    };
-    let Some(conn) = read_number(word, MOST_CONN) else {
+    let Some((conn, words)) = next_number(words, MOST_CONN) else {
         return Err(LineFault::Kind(3));
     };
     let event = read_event(alloc, numbers, words)?;
@@ -129,11 +144,8 @@ impl LineForm for RequestForm<'_> {
     ghost says = { λ form. request_line (λ name. get_by (λ k. slice_cmp nat_cmp name k.now) form.numbers) };
 
     fn read(&self, alloc: Global, number: u32, line: &[u8]) -> Result<Line, LineFault> {
-        let Some((word, words)) = next_word(Some(line)) else {
-            return Err(LineFault::Kind(2));
-        };
-        match read_number(word, MOST_MOMENT) {
-            Some(moment) => read_conn(alloc, &self.numbers, number, moment, words),
+        match next_number(Some(line), MOST_MOMENT) {
+            Some((moment, words)) => read_conn(alloc, &self.numbers, number, moment, words),
             None => Err(LineFault::Kind(2)),
         }
     }

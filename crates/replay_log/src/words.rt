@@ -1,21 +1,22 @@
-ghost use Rattle.std.specs.Prelude.{◌≡◌, ◌<◌, ◌==◌, ◌&&◌, not, length, IfSome, IfOk, MatchOption, Err};
+ghost use Rattle.std.specs.Prelude.{◌≡◌, ◌<◌, ◌==◌, ◌&&◌, not, length, IfOk, MatchOption, Err};
 ghost use Rattle.std.specs.Ordering.{nat_cmp};
-ghost use Rattle.std.specs.List.{list_all, position};
+ghost use Rattle.std.specs.List.{list_all};
 ghost use Rattle.std.specs.Cmp.Lexicographic.{slice_cmp};
 ghost use Rattle.std.specs.BTreeMap.{get_by};
-ghost use Rattle.zone_outside.specs.Coded.{decoded};
-ghost use Rattle.zone_outside.specs.Numbers.{is_empty, number_of};
+ghost use Rattle.zone_outside.specs.Coded.{decoded, is_plain};
+ghost use Rattle.zone_outside.specs.Numbers.{is_empty};
 ghost use Rattle.zone_key.specs.Expr.{is_name_byte};
 ghost use Rattle.zone_key.specs.Printing.{is_other_name};
-ghost use Rattle.replay_log.specs.Words.{address_kind, address_of, level_of, named_pair, octets_of, pair_of, ended};
-ghost use Rattle.replay_log.specs.Reading.{Tells, CutsWord, words_left};
+ghost use Rattle.replay_log.specs.Words.{address_kind, address_of, at_location, level_of, named_pair, octets_of, pair_of, ended};
+ghost use Rattle.replay_log.specs.Reading.{Tells, CutsNumber, CutsWord, words_left};
 
-use crate::cut::cut;
+use crate::cut::{cut_near, place_of};
 use crate::fault::LineFault;
+use crate::numbers::cut_number;
 use std::alloc::Global;
 use std::collections::BTreeMap;
 use zone_key::Pair;
-use zone_outside::{DecodeFault, Text, decode, read_number};
+use zone_outside::{DecodeFault, Text, decode};
 
 /// The last moment that a log may name, in ms.
 pub(crate) const MOST_MOMENT: u64 = 4_398_046_511_103;
@@ -25,7 +26,7 @@ pub(crate) fn next_word(words: Option<&[u8]>) -> Option<(&[u8], Option<&[u8]>)>
     ensures { CutsWord result words.entry }
 {
     let rest = words?;
-    match cut(rest, b' ') {
+    match cut_near(rest, b' ') {
         Some((word, behind)) => Some((word, Some(behind))),
         None => Some((rest, None)),
     }
@@ -38,6 +39,24 @@ pub(crate) fn at_end<T: Drop>(said: T, words: Option<&[u8]>) -> Result<T, LineFa
     match next_word(words) {
         Some(_) => Err(LineFault::Kind(10)),
         None => Ok(said),
+    }
+}
+
+/// Whether each byte of a word stands for itself in coded text.
+pub(crate) fn are_plain(word: &[u8]) -> bool
+    ensures { result ≡ list_all (λ c. is_plain c && not (c == 37)) word.now }
+{
+    word.iter()
+        .all(|byte| *byte >= 0x21 && *byte <= 0x7e && *byte != b'%')
+}
+
+/// The level of the location of a name.
+fn level_called(numbers: &BTreeMap<&[u8], u32>, name: &[u8]) -> Result<Option<u32>, LineFault>
+    ensures { Tells (at_location (get_by (λ k. slice_cmp nat_cmp name.now k.now) numbers.now)) result }
+{
+    match numbers.get(name) {
+        Some(number) => Ok(Some(*number)),
+        None => Err(LineFault::Kind(5)),
     }
 }
 
@@ -55,11 +74,11 @@ pub(crate) fn read_level(
     if word.is_empty() {
         return Err(LineFault::Kind(5));
     }
+    if are_plain(word) {
+        return level_called(numbers, word);
+    }
     match decode(alloc, word) {
-        Ok(name) => match numbers.get(name.as_slice()) {
-            Some(number) => Ok(Some(*number)),
-            None => Err(LineFault::Kind(5)),
-        },
+        Ok(name) => level_called(numbers, name.as_slice()),
         Err(DecodeFault::Badly) => Err(LineFault::Kind(5)),
         Err(DecodeFault::NoMemory) => Err(LineFault::NoMemory),
     }
@@ -72,24 +91,25 @@ fn address_kind(word: &[u8]) -> u32
     if word.contains(&b':') { 7 } else { 6 }
 }
 
-/// A number of an address.
-fn octet(word: &[u8]) -> Option<u8>
-    ensures { result ≡ number_of 255 word.now }
+/// The number of an address that a word starts with, and what stands behind its dot.
+fn octet(word: &[u8]) -> Option<(u8, Option<&[u8]>)>
+    ensures { CutsNumber 46 255 word.now result }
 {
-    let number = read_number(word, 255)?;
-    Some(number as u8)
+    let (number, rest) = cut_number(word, b'.', 255)?;
+    Some((number as u8, rest))
 }
 
 /// The four numbers of an address.
 fn octets(word: &[u8]) -> Option<[u8; 4]>
     ensures { result ≡ octets_of word.now }
 {
-    let (first, rest) = cut(word, b'.')?;
-    let (second, rest) = cut(rest, b'.')?;
-    let (third, fourth) = cut(rest, b'.')?;
-    match cut(fourth, b'.') {
+    let (first, rest) = octet(word)?;
+    let (second, rest) = octet(rest?)?;
+    let (third, rest) = octet(rest?)?;
+    let (fourth, rest) = octet(rest?)?;
+    match rest {
         Some(_) => None,
-        None => Some([octet(first)?, octet(second)?, octet(third)?, octet(fourth)?]),
+        None => Some([first, second, third, fourth]),
     }
 }
 
@@ -103,19 +123,11 @@ pub(crate) fn read_address(word: &[u8]) -> Result<[u8; 4], LineFault>
     }
 }
 
-/// Where a word has its first `=`.
-fn equals_at(word: &[u8]) -> Option<usize>
-    ensures value { result ≡ position (λ c. c == 61) word.now }
-    ensures within { IfSome result (λ at. at < length word.now) }
-{
-    word.iter().position(|byte| *byte == b'=')
-}
-
 /// A word's name and its coded value, before and behind its first `=`.
 pub(crate) fn cut_pair(word: &[u8]) -> Option<(&[u8], &[u8])>
     ensures { MatchOption result (pair_of word.now ≡ Err 8) (λ pair. pair_of word.now ≡ named_pair pair.0.now (decoded pair.1.now)) }
 {
-    let at = equals_at(word)?;
+    let at = place_of(word, b'=')?;
     Some((&word[..at], &word[at + 1..]))
 }
 

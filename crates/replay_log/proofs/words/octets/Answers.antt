@@ -1,17 +1,23 @@
 use Rattle.std.proofs.Common.{ℕ, List, ◌∷◌, map, sym, ap, ◌∙◌}
 use Rattle.zone_outside.specs.Numbers.{number_of}
 use Rattle.replay_log.specs.Words.{four_of}
+use Rattle.replay_log.specs.Reading.{parts_left}
 use Rattle.replay_log.proofs.WordLemmas.{too_many_octets}
 use Rattle.replay_log.proofs.words.octets.Goals as goal
 
 pub returns-in-Some : goal.returns-in-Some
 returns-in-Some c =
-    let first = c.in_ok-first.first.now in
-    let second = c.in_ok-second.second.now in
-    let third = c.in_ok-third.third.now in
+    let first = c.in_ok-first.ensures in
+    let second = c.in_ok-second.ensures in
+    let third = c.in_ok-third.ensures in
+    let fourth = c.in_ok-fourth.ensures in
     sym (ap (λ (ws : List (List ℕ)). four_of (map (number_of 255) ws))
-    (c.in_ok-first.ensures.0
-    ∙ ap (λ (ws : List (List ℕ)). first ∷ ws) c.in_ok-second.ensures.0
-    ∙ ap (λ (ws : List (List ℕ)). first ∷ second ∷ ws) c.in_ok-third.ensures.0
-    ∙ ap (λ (ws : List (List ℕ)). first ∷ second ∷ third ∷ ws) c.in-Some.ensures.0)
-    ∙ too_many_octets first second third c.in-Some.field-0.0.now c.in-Some.field-0.1.now)
+    (first.1.0
+    ∙ ap (λ rest. first.0 ∷ parts_left 46 rest) c.in_ok-rest.was
+    ∙ ap (λ (ws : List (List ℕ)). first.0 ∷ ws) second.1.0
+    ∙ ap (λ rest. first.0 ∷ second.0 ∷ parts_left 46 rest) c.in_ok-rest-2.was
+    ∙ ap (λ (ws : List (List ℕ)). first.0 ∷ second.0 ∷ ws) third.1.0
+    ∙ ap (λ rest. first.0 ∷ second.0 ∷ third.0 ∷ parts_left 46 rest) c.in_ok-rest-3.was
+    ∙ ap (λ (ws : List (List ℕ)). first.0 ∷ second.0 ∷ third.0 ∷ ws) fourth.1.0
+    ∙ ap (λ rest. first.0 ∷ second.0 ∷ third.0 ∷ fourth.0 ∷ parts_left 46 rest) c.in-Some.is)
+    ∙ too_many_octets first.0 second.0 third.0 fourth.0 c.in-Some.field-0.now)
