@@ -6,7 +6,7 @@ use std::alloc::{AllocError, Global};
 /// The most bytes whose digits are made without memory of their own.
 const SHORT: usize = 32;
 
-/// Adds two lower-case hexadecimal digits for each byte.
+/// Adds two lower-case hexadecimal digits for each byte, those of a few bytes by a copy of a fixed length, as `push_digits` does.
 pub(crate) fn push_hex_bytes(
     alloc: Global,
     text: &mut Vec<u8>,
