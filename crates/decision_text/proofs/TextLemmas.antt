@@ -1,6 +1,7 @@
 -- Texts that grow by one part at a time.
-use Rattle.std.proofs.Common.{ℕ, ◌≡◌, ◌+◌, ◌<◌, ◌≤◌, List, [], ◌∷◌, ◌++◌, length, get_or, take, sym, ap, subst, add-one, ◌∙◌, refl, arith, zero, suc, append_assoc, append-nil}
+use Rattle.std.proofs.Common.{ℕ, ◌≡◌, ◌+◌, ◌<◌, ◌≤◌, List, [], ◌∷◌, ◌++◌, length, get_or, take, drop, sym, ap, subst, add-one, ◌∙◌, refl, arith, zero, suc, append_assoc, append-nil}
 use Rattle.std.specs.List.{flat_map}
+use Rattle.std.proofs.Math.Seq.{take-append-add, take-append_seam}
 use Rattle.slab_model.specs.declared.stat.Stat.{Stat}
 use Rattle.slab_model.specs.State.{no_stat}
 use Rattle.decision_text.specs.TailText.{slot_text, slots_text, word_text, words_text}
@@ -55,3 +56,14 @@ take_whole [] zero enough = refl
 take_whole [] (suc n) enough = refl
 take_whole (x ∷ xs) zero enough = absurd (omega (arith, enough))
 take_whole (x ∷ xs) (suc n) enough = ap (λ (ys : List _). x ∷ ys) (take_whole xs n (omega (arith, enough)))
+
+-- digits that stand in a room, with all of the room behind a text, and what is behind the digits cut off
+pub digits_cut : (old digits rest room : List ℕ) (start size count : ℕ) → drop start room ≡ digits ++ rest → size ≡ length digits + start → count ≡ length (old ++ digits)
+    → take count (old ++ take size (drop start room)) ≡ old ++ digits
+digits_cut old digits rest room start size count had is cut =
+    ap (λ (k : ℕ). take k (old ++ take size (drop start room))) cut
+    ∙ ap (λ (xs : List ℕ). take (length (old ++ digits)) (old ++ take size xs)) had
+    ∙ ap (λ (k : ℕ). take (length (old ++ digits)) (old ++ take k (digits ++ rest))) is
+    ∙ ap (λ (xs : List ℕ). take (length (old ++ digits)) (old ++ xs)) (take-append-add digits rest start)
+    ∙ ap (take (length (old ++ digits))) (sym (append_assoc old digits (take start rest)))
+    ∙ take-append_seam (old ++ digits) (take start rest)

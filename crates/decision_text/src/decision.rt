@@ -4,8 +4,7 @@ ghost use Rattle.decision_text.specs.DecisionText.{name_word, servers_in, server
 
 use crate::check::name_of;
 use crate::coding::push_coded;
-use crate::history::push_with;
-use crate::numbers::{push_number, push_thousandths};
+use crate::numbers::{push_number, push_thousandths, push_with};
 use replay_log::Line;
 use request_script::{ConnStatus, Decision, Excess, Outcome, PeerAt, ReqStatus};
 use std::alloc::AllocError;
@@ -211,8 +210,7 @@ pub fn push_decision(
     ensures { OnOk result (text.new.items ≡ text.old.items ++ decision_text config.now line.now decision) }
 {
     push_number(text, u64::from(line.number))?;
-    text.push(b' ')?;
-    push_number(text, u64::from(line.conn))?;
+    push_with(text, b" ", u64::from(line.conn))?;
     text.push(b' ')?;
     push_words(text, config.zones.as_slice(), decision)?;
     text.push(b'\n')?;

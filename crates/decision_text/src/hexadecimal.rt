@@ -6,7 +6,7 @@ use std::alloc::{AllocError, Global};
 /// The most bytes whose digits are made without memory of their own.
 const SHORT: usize = 32;
 
-/// Adds two lower-case hexadecimal digits for each byte.
+/// Adds two lower-case hexadecimal digits for each byte, those of a few bytes by a copy of a fixed length, as `push_digits` does.
 pub(crate) fn push_hex_bytes(
     alloc: Global,
     text: &mut Vec<u8>,
@@ -18,12 +18,14 @@ pub(crate) fn push_hex_bytes(
         let digits = hex::encode(alloc, bytes)?;
         return text.extend_from_slice(digits.as_bytes());
     }
-    let mut buffer = [0u8; 2 * SHORT];
-    let digits = &mut buffer[..2 * bytes.len()];
-    match hex::encode_to_slice(bytes, digits) {
-        Ok(()) => text.extend_from_slice(digits),
+    let mut digits = [0u8; 2 * SHORT];
+    match hex::encode_to_slice(bytes, &mut digits[..2 * bytes.len()]) {
+        Ok(()) => {}
         Err(_) => unreachable!(),
     }
+    text.extend_from_slice(&digits)?;
+    text.truncate(text.len() - 2 * (SHORT - bytes.len()));
+    Ok(())
 }
 
 /// Adds a word in 16 lower-case hexadecimal digits.

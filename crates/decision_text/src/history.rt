@@ -3,19 +3,11 @@ ghost use Rattle.decision_text.specs.HistoryText.{zone_head, with_number, entry_
 
 use crate::coding::push_coded;
 use crate::hexadecimal::{push_hex_bytes, push_hex_word};
-use crate::numbers::push_number;
+use crate::numbers::{push_number, push_with};
 use conn_zone::{ConnCall, ConnReply};
 use peer_zone::{PeerCall, PeerReply};
 use req_zone::{ReqCall, ReqReply};
 use std::alloc::{AllocError, Global};
-
-/// Adds a word and a number behind it.
-pub(crate) fn push_with(text: &mut Vec<u8>, word: &[u8], number: u64) -> Result<(), AllocError>
-    ensures { OnOk result (text.new.items ≡ text.old.items ++ with_number word.now number) }
-{
-    text.extend_from_slice(word)?;
-    push_number(text, number)
-}
 
 /// Adds the line with which the history of a zone begins, `zone NAME KIND calls=N`. `kind` has blanks around it.
 pub fn push_zone_head(
@@ -37,19 +29,17 @@ pub fn push_zone_head(
 
 /// Adds the place of an entry and the worker that made its call.
 fn push_place(text: &mut Vec<u8>, place: u64, worker: u32) -> Result<(), AllocError>
-    ensures { OnOk result (text.new.items ≡ text.old.items ++ with_number (decimal place ++ codes " ") worker ++ codes " ") }
+    ensures { OnOk result (text.new.items ≡ text.old.items ++ with_number (decimal place ++ codes " ") worker) }
 {
     push_number(text, place)?;
-    text.push(b' ')?;
-    push_number(text, u64::from(worker))?;
-    text.push(b' ')?;
-    Ok(())
+    push_with(text, b" ", u64::from(worker))
 }
 
 // ---- request zones
 
+/// Adds a blank and what was asked.
 fn push_req_call(alloc: Global, text: &mut Vec<u8>, call: &ReqCall) -> Result<(), AllocError>
-    ensures { OnOk result (text.new.items ≡ text.old.items ++ req_call_words call.now) }
+    ensures { OnOk result (text.new.items ≡ text.old.items ++ (codes " " ++ req_call_words call.now)) }
 {
     match call {
         ReqCall::Check {
@@ -58,17 +48,17 @@ fn push_req_call(alloc: Global, text: &mut Vec<u8>, call: &ReqCall) -> Result<()
             burst,
             last,
         } => {
-            text.extend_from_slice(b"check ")?;
+            text.extend_from_slice(b" check ")?;
             push_hex_bytes(alloc, text, key.bytes())?;
             push_with(text, b" ", *now)?;
             push_with(text, b" ", *burst)?;
             text.extend_from_slice(if *last { b" 1" } else { b" 0" })
         }
         ReqCall::Account { at, now } => {
-            push_with(text, b"account ", *at)?;
+            push_with(text, b" account ", *at)?;
             push_with(text, b" ", *now)
         }
-        ReqCall::Release { at } => push_with(text, b"release ", *at),
+        ReqCall::Release { at } => push_with(text, b" release ", *at),
     }
 }
 
@@ -109,16 +99,17 @@ pub fn push_req_entry(
 
 // ---- connection zones
 
+/// Adds a blank and what was asked.
 fn push_conn_call(alloc: Global, text: &mut Vec<u8>, call: &ConnCall) -> Result<(), AllocError>
-    ensures { OnOk result (text.new.items ≡ text.old.items ++ conn_call_words call.now) }
+    ensures { OnOk result (text.new.items ≡ text.old.items ++ (codes " " ++ conn_call_words call.now)) }
 {
     match call {
         ConnCall::Open { key, limit } => {
-            text.extend_from_slice(b"open ")?;
+            text.extend_from_slice(b" open ")?;
             push_hex_bytes(alloc, text, key.bytes())?;
             push_with(text, b" ", *limit)
         }
-        ConnCall::Close { at } => push_with(text, b"close ", *at),
+        ConnCall::Close { at } => push_with(text, b" close ", *at),
     }
 }
 
@@ -157,12 +148,13 @@ pub fn push_conn_entry(
 
 // ---- upstream zones
 
+/// Adds a blank and what was asked.
 fn push_peer_call(alloc: Global, text: &mut Vec<u8>, call: &PeerCall) -> Result<(), AllocError>
-    ensures { OnOk result (text.new.items ≡ text.old.items ++ peer_call_words call.now) }
+    ensures { OnOk result (text.new.items ≡ text.old.items ++ (codes " " ++ peer_call_words call.now)) }
 {
     match call {
         PeerCall::Choose { list, tried, now } => {
-            push_with(text, b"choose ", u64::from(*list))?;
+            push_with(text, b" choose ", u64::from(*list))?;
             text.push(b' ')?;
             push_hex_word(alloc, text, *tried)?;
             push_with(text, b" ", *now)
@@ -173,7 +165,7 @@ fn push_peer_call(alloc: Global, text: &mut Vec<u8>, call: &PeerCall) -> Result<
             failed,
             now,
         } => {
-            push_with(text, b"free ", u64::from(*list))?;
+            push_with(text, b" free ", u64::from(*list))?;
             push_with(text, b" ", u64::from(*index))?;
             text.extend_from_slice(if *failed { b" failed" } else { b" good" })?;
             push_with(text, b" ", *now)

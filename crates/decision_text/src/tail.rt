@@ -3,7 +3,7 @@ ghost use Rattle.decision_text.specs.TailText.{AreWords, slot_line, slot_text, s
 
 use crate::coding::push_coded;
 use crate::hexadecimal::push_hex_word;
-use crate::history::push_with;
+use crate::numbers::push_with;
 use slab_model::{Stat, class_size};
 use std::alloc::{AllocError, Global};
 use zone_object::ZoneView;

@@ -40,15 +40,6 @@ notices-push (l ∷ lines) (d ∷ decisions) zero line decision low_line low_dec
 notices-push (l ∷ lines) (d ∷ decisions) (suc i) line decision low_line low_decision line_is decision_is =
     ap (λ (ns : List Notice). record { line = l.number; decision = d } ∷ ns) (notices-push lines decisions i line decision (omega (arith, low_line)) (omega (arith, low_decision)) line_is decision_is)
 
--- the notices of the lines so far get one more
-pub notices-grow : (old new : List Notice) (lines : List Line) (decisions : List Decision) (i j : ℕ) (line : Line) (decision : Decision) → i < length lines → i < length decisions → line ≡ get_or lines i line → decision ≡ get_or decisions i decision
-    → old ≡ notices_of (take i lines) (take i decisions) → new ≡ old ++ record { line = line.number; decision = decision } ∷ [] → j ≡ i + 1 → new ≡ notices_of (take j lines) (take j decisions)
-notices-grow old new lines decisions i j line decision low_line low_decision line_is decision_is had grew next =
-    grew
-    ∙ ap (λ (ns : List Notice). ns ++ record { line = line.number; decision = decision } ∷ []) had
-    ∙ notices-push lines decisions i line decision low_line low_decision line_is decision_is
-    ∙ ap (λ (n : ℕ). notices_of (take n lines) (take n decisions)) (sym (next ∙ add-one i))
-
 -- when the shorter list ends
 pub notices-whole : (lines : List Line) (decisions : List Decision) (n : ℕ) → n ≡ min (length lines) (length decisions) → notices_of (take n lines) (take n decisions) ≡ notices_of lines decisions
 notices-whole [] decisions n is =
@@ -61,3 +52,14 @@ notices-whole (l ∷ lines) (d ∷ decisions) n is =
     let more : n ≡ suc (min (length lines) (length decisions)) = omega (arith, is) in
     ap (λ (k : ℕ). notices_of (take k (l ∷ lines)) (take k (d ∷ decisions))) more
     ∙ ap (λ (ns : List Notice). record { line = l.number; decision = d } ∷ ns) (notices-whole lines decisions (min (length lines) (length decisions)) refl)
+
+none-decided : (lines : List Line) → notices_of lines [] ≡ []
+none-decided [] = refl
+none-decided (l ∷ lines) = refl
+
+-- the notices of the first lines, and those of the lines behind them
+pub notices-apart : (lines : List Line) (decisions : List Decision) (i : ℕ) → notices_of (take i lines) (take i decisions) ++ notices_of (drop i lines) (drop i decisions) ≡ notices_of lines decisions
+notices-apart lines decisions zero = refl
+notices-apart [] decisions (suc i) = refl
+notices-apart (l ∷ lines) [] (suc i) = none-decided (drop i lines)
+notices-apart (l ∷ lines) (d ∷ decisions) (suc i) = ap (λ (ns : List Notice). record { line = l.number; decision = d } ∷ ns) (notices-apart lines decisions i)

@@ -1,15 +1,19 @@
 -- A list of which the watchers that stay are moved to the front, one place after another.
-use Rattle.std.proofs.Common.{ℕ, suc, ◌≡◌, ◌+◌, ◌<◌, ◌≤◌, ◌⊎◌, inl, inr, List, [], ◌∷◌, ◌++◌, length, map, take, drop, get_or, subst, sym, ap, refl, add-one, ◌∙◌, arith, append-nil}
+use Rattle.std.proofs.Common.{ℕ, suc, ◌≡◌, ◌+◌, ◌<◌, ◌≤◌, ◌⊎◌, inl, inr, List, [], ◌∷◌, ◌++◌, length, map, take, drop, get_or, min, subst, sym, ap, refl, add-one, ◌∙◌, arith, append-nil, append_assoc}
 use Rattle.std.specs.Prelude.{Option, Some, None, slice_set, option_and_then}
 use Rattle.std.specs.List.{cons_option, filter_map, swap}
 use Rattle.std.proofs.Math.Seq.{take-suc, take-suc-set, take-append_seam}
 use Rattle.std.proofs.lemmas.List.{map-append, take-set-le, drop-set-lt, get_or-set_same, length-set, set-get_or, drop_more, get_or-drop}
 use Rattle.std.proofs.lemmas.List.Edits.{swap_is}
 use Rattle.std.proofs.lemmas.List.Elements.{filter_map-append}
+use Rattle.replay_log.specs.declared.line.Line.{Line}
+use Rattle.request_script.specs.declared.decision.Decision.{Decision}
 use Rattle.request_script.specs.declared.decision.Notice.{Notice}
 use Rattle.zone_watch.specs.declared.stay.Stay.{Stay}
 use Rattle.zone_watch.specs.declared.stay.Stay.TheVariants.{Keep, Leave}
+use Rattle.zone_watch.specs.Notices.{notices_of}
 use Rattle.zone_watch.specs.Watched.{Watched, sees, answers, unless_left, left_after, left_of, shown}
+use Rattle.zone_watch.proofs.Counts.{notices-push, notices-whole, notices-apart}
 
 -- ---- an exchange of two places
 
@@ -148,6 +152,47 @@ shown-more notices i d first list after low before step =
     ∙ sym (shown-push (take i notices) (get_or notices i d) first)
     ∙ ap (λ (ns : List Notice). shown ns first) (sym (take-suc notices i d low))
     ∙ ap (λ (j : ℕ). shown (take j notices) first) (sym (add-one i))
+
+-- before the first line
+pub decided-none : (list : List Watched) → list ≡ shown [] list
+decided-none list = sym (shown-nothing list)
+
+-- when what is decided of as many lines was shown as there are before a place, and of the line at that place
+pub decided-more : (lines : List Line) (decisions : List Decision) (i j : ℕ) (line : Line) (decision : Decision) (first list after : List Watched) → i < length lines → i < length decisions → line ≡ get_or lines i line → decision ≡ get_or decisions i decision
+    → list ≡ shown (notices_of (take i lines) (take i decisions)) first → after ≡ filter_map (left_after (record { line = line.number; decision = decision })) list → j ≡ i + 1
+    → after ≡ shown (notices_of (take j lines) (take j decisions)) first
+decided-more lines decisions i j line decision first list after low_line low_decision line_is decision_is before step next =
+    let n : Notice = record { line = line.number; decision = decision } in
+    step
+    ∙ ap (filter_map (left_after n)) before
+    ∙ sym (shown-push (notices_of (take i lines) (take i decisions)) n first)
+    ∙ ap (λ (ns : List Notice). shown ns first) (notices-push lines decisions i line decision low_line low_decision line_is decision_is)
+    ∙ ap (λ (k : ℕ). shown (notices_of (take k lines) (take k decisions)) first) (sym (next ∙ add-one i))
+
+-- when the shorter list ends
+pub decided-whole : (lines : List Line) (decisions : List Decision) (i : ℕ) (first list : List Watched) → list ≡ shown (notices_of (take i lines) (take i decisions)) first → i ≡ min (length lines) (length decisions)
+    → list ≡ shown (notices_of lines decisions) first
+decided-whole lines decisions i first list before end = before ∙ ap (λ (ns : List Notice). shown ns first) (notices-whole lines decisions i end)
+
+-- where no watcher is left, none is left after more notices
+none-left : (rest some : List Notice) (first : List Watched) → shown some first ≡ [] → shown (some ++ rest) first ≡ []
+none-left [] some first none = ap (λ (ns : List Notice). shown ns first) (append-nil some) ∙ none
+none-left (n ∷ rest) some first none =
+    ap (λ (ns : List Notice). shown ns first) (sym (append_assoc some (n ∷ []) rest))
+    ∙ none-left rest (some ++ n ∷ []) first (shown-push some n first ∙ ap (filter_map (left_after n)) none)
+
+-- and so none is left when all are shown
+pub decided-left : (lines : List Line) (decisions : List Decision) (i : ℕ) (first list : List Watched) → list ≡ shown (notices_of (take i lines) (take i decisions)) first → list ≡ []
+    → list ≡ shown (notices_of lines decisions) first
+decided-left lines decisions i first list before none =
+    none
+    ∙ sym (none-left (notices_of (drop i lines) (drop i decisions)) (notices_of (take i lines) (take i decisions)) first (sym before ∙ none))
+    ∙ ap (λ (ns : List Notice). shown ns first) (notices-apart lines decisions i)
+
+-- a list of no elements
+pub empty-map : {W : Type 0} (m : W → Watched) (list : List W) → length list ≡ 0 → map m list ≡ []
+empty-map m [] is = refl
+empty-map m (w ∷ list) is = absurd (omega (arith, is))
 
 -- a list whose elements were written back into the memory that they stand in
 pub written-back : {W : Type 0} (xs spare : List W) (n : ℕ) → length xs ≡ n → take n (xs ++ spare) ≡ xs

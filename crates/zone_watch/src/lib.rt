@@ -3,7 +3,6 @@
 
 mod boxed;
 mod counting;
-mod notices;
 mod refused;
 mod reports;
 mod show;
@@ -12,7 +11,6 @@ mod stay;
 mod telling;
 mod watcher;
 
-pub use notices::notices_of;
 pub use refused::RefusedWatch;
 pub use reports::push_reports;
 pub use show::show_all;

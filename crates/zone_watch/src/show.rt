@@ -1,10 +1,12 @@
 ghost use Rattle.std.specs.Prelude.{◌≡◌, ◌≤◌, length, map, take};
 ghost use Rattle.std.specs.List.{filter_map};
+ghost use Rattle.zone_watch.specs.Notices.{notices_of};
 ghost use Rattle.zone_watch.specs.Watched.{sees, answers, left_after, shown};
 
 use crate::stay::Stay;
 use crate::watcher::Watcher;
-use request_script::Notice;
+use replay_log::Line;
+use request_script::{Decision, Notice};
 
 /// Shows a notice to one watcher.
 fn show<W: Watcher>(watcher: &mut W, notice: &Notice) -> Stay
@@ -48,5 +50,22 @@ pub fn show_all<W: Watcher>(list: &mut Vec<W>, notices: &[Notice])
 {
     for notice in notices {
         show_notice(list, notice);
+    }
+}
+
+/// Shows what is decided of each line, in order, to each watcher that is still in the list, as `show_all` does for a list of
+/// notices. It takes no memory, and ends where no watcher is left.
+pub(crate) fn show_decisions<W: Watcher>(list: &mut Vec<W>, lines: &[Line], decisions: &[Decision])
+    ensures { map W.watched list.new.items ≡ shown (notices_of lines.now decisions.now) (map W.watched list.old.items) }
+{
+    for (line, decision) in lines.iter().zip(decisions) {
+        if list.is_empty() {
+            return;
+        }
+        let notice = Notice {
+            line: line.number,
+            decision: *decision,
+        };
+        show_notice(list, &notice);
     }
 }

@@ -1,7 +1,5 @@
 use crate::counting::push_count;
-use crate::{
-    RefusedWatch, StatusWatch, Stay, Watcher, notices_of, push_reports, show_all, show_and_report,
-};
+use crate::{RefusedWatch, StatusWatch, Stay, Watcher, push_reports, show_all, show_and_report};
 use replay_log::{Event, Line};
 use request_script::{ConnStatus, Decision, Excess, Notice, Outcome, PeerAt, ReqStatus};
 use std::alloc::Global;
@@ -295,17 +293,6 @@ fn two_lines(alloc: Global) -> Result<Vec<Line>, NoMemory> {
         })?;
     }
     Ok(lines)
-}
-
-/// The notices of two lines.
-#[test]
-fn numbers_the_notices(rt: HostRuntime) -> Result<(), Fail> {
-    let alloc = rt.alloc();
-    let lines = two_lines(alloc)?;
-    let notices = notices_of(alloc, &lines, &[Decision::IdleDone, Decision::IdleDone])?;
-    assert_eq!(rt; notices.len(), 2);
-    assert_eq!(rt; notices[1].line, 2);
-    Ok(())
 }
 
 /// The reports of those that are left follow the text.
