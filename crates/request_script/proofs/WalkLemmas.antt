@@ -8,13 +8,9 @@ use Rattle.zone_config.specs.declared.data.ConnLimit.{ConnLimit}
 use Rattle.zone_config.specs.declared.data.ReqLimit.{ReqLimit}
 use Rattle.req_zone.specs.declared.calls.ReqCall.TheVariants.{Check}
 use Rattle.conn_zone.specs.declared.calls.ConnCall.TheVariants as conn
-use Rattle.request_script.specs.declared.active.Opened.{Opened}
 use Rattle.request_script.specs.declared.call.ZoneCall.TheVariants as to
-use Rattle.request_script.specs.declared.progress.Opening.{Opening}
-use Rattle.request_script.specs.declared.progress.Progress.TheVariants as at
-use Rattle.request_script.specs.declared.progress.ReqAsked.TheVariants as kind
-use Rattle.request_script.specs.declared.said.Hold.{Hold}
-use Rattle.request_script.specs.declared.said.ReqSaid.{ReqSaid}
+use Rattle.request_script.specs.declared.progress.Asked.TheVariants as asked
+use Rattle.request_script.specs.declared.progress.Progress.{Progress}
 use Rattle.request_script.specs.Turn.Turn.{asks}
 use Rattle.request_script.specs.Zones.{key_of, is_skipped}
 use Rattle.request_script.specs.ReqLimits.{is_last, walk_ends}
@@ -42,37 +38,38 @@ is_last-there xs ys i d e low = subst (λ zs. is_last (drop i zs) ≡ nat_eq i (
 drop-past : {A : Type 0} (xs ys : List A) (i : ℕ) → xs ≡ ys → length xs ≤ i → drop i ys ≡ []
 drop-past xs ys i e past = subst (λ zs. drop i zs ≡ []) e (drop_all i xs past)
 
-module _ (config : Config) (o : Opening) (place : ℕ) where
-  module _ (limits : List ReqLimit) (are : limits ≡ (level_of config o).req) (holds : List Hold) where
+module _ (config : Config) (p : Progress) (place : ℕ) where
+  module _ (limits : List ReqLimit) (are : limits ≡ (level_of config p.opening).req) where
     -- a limit of requests that is skipped
-    pub reqs-skipped : (d : ReqLimit) → place < length limits → is_skipped 65535 (key_of config o.vars (get_or limits place d).zone) ≡ true
-        → reqs_from config o holds (place + 1) ≡ reqs_from config o holds place
+    pub reqs-skipped : (d : ReqLimit) → place < length limits → is_skipped 65535 (key_of config p.opening.vars (get_or limits place d).zone) ≡ true
+        → reqs_from config p.opening p.holds (place + 1) ≡ reqs_from config p.opening p.holds place
     reqs-skipped d low skipped = rw (drop-there limits _ place d are low, skipped) refl
 
     -- one that is asked
-    pub reqs-asked : (d : ReqLimit) → place < length limits → is_skipped 65535 (key_of config o.vars (get_or limits place d).zone) ≡ false
-        → asks (to.Req (get_or limits place d).zone (Check (key_of config o.vars (get_or limits place d).zone) o.moment (get_or limits place d).burst (nat_eq (place + 1) (length limits))))
-        (rest config (at.Reqs o holds (kind.Check (get_or limits place d) (place + 1))))
-        ≡ reqs_from config o holds place
+    pub reqs-asked : (d : ReqLimit) → place < length limits → is_skipped 65535 (key_of config p.opening.vars (get_or limits place d).zone) ≡ false
+        → asks (to.Req (get_or limits place d).zone (Check (key_of config p.opening.vars (get_or limits place d).zone) p.opening.moment (get_or limits place d).burst (nat_eq (place + 1) (length limits))))
+        (rest config (record p { asked = asked.Check (get_or limits place d) (place + 1) }))
+        ≡ reqs_from config p.opening p.holds place
     reqs-asked d low asked = rw (drop-there limits _ place d are low, asked, is_last-there limits _ (place + 1) d are (omega arith)) refl
 
     -- the end of the list
-    pub reqs-end : length limits ≤ place → walk_ends config o.moment o.vars (level_of config o).req_dry holds (behind_reqs config o) ≡ reqs_from config o holds place
+    pub reqs-end : length limits ≤ place
+        → walk_ends config p.opening.moment p.opening.vars (level_of config p.opening).req_dry p.holds (behind_reqs config p.opening) ≡ reqs_from config p.opening p.holds place
     reqs-end past = rw (drop-past limits _ place are past) refl
 
-  module _ (limits : List ConnLimit) (are : limits ≡ (level_of config o).conn) (said : ReqSaid) (opened : List Opened) where
+  module _ (limits : List ConnLimit) (are : limits ≡ (level_of config p.opening).conn) where
     -- a limit of connections that is skipped
-    pub conns-skipped : (d : ConnLimit) → place < length limits → is_skipped 255 (key_of config o.vars (get_or limits place d).zone) ≡ true
-        → conns_from config o said opened (place + 1) ≡ conns_from config o said opened place
+    pub conns-skipped : (d : ConnLimit) → place < length limits → is_skipped 255 (key_of config p.opening.vars (get_or limits place d).zone) ≡ true
+        → conns_from config p.opening p.said p.opened (place + 1) ≡ conns_from config p.opening p.said p.opened place
     conns-skipped d low skipped = rw (drop-there limits _ place d are low, skipped) refl
 
     -- one that is asked
-    pub conns-asked : (d : ConnLimit) → place < length limits → is_skipped 255 (key_of config o.vars (get_or limits place d).zone) ≡ false
-        → asks (to.Conn (get_or limits place d).zone (conn.Open (key_of config o.vars (get_or limits place d).zone) (get_or limits place d).limit))
-        (rest config (at.Open o said opened (get_or limits place d) (place + 1)))
-        ≡ conns_from config o said opened place
+    pub conns-asked : (d : ConnLimit) → place < length limits → is_skipped 255 (key_of config p.opening.vars (get_or limits place d).zone) ≡ false
+        → asks (to.Conn (get_or limits place d).zone (conn.Open (key_of config p.opening.vars (get_or limits place d).zone) (get_or limits place d).limit))
+        (rest config (record p { asked = asked.Open (get_or limits place d) (place + 1) }))
+        ≡ conns_from config p.opening p.said p.opened place
     conns-asked d low asked = rw (drop-there limits _ place d are low, asked) refl
 
     -- the end of the list
-    pub conns-end : length limits ≤ place → behind_conns config o said (conn_passed opened) opened ≡ conns_from config o said opened place
+    pub conns-end : length limits ≤ place → behind_conns config p.opening p.said (conn_passed p.opened) p.opened ≡ conns_from config p.opening p.said p.opened place
     conns-end past = rw (drop-past limits _ place are past) refl

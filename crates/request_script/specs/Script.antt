@@ -5,6 +5,7 @@ use Rattle.std.specs.Ordering.{nat_cmp}
 use Rattle.zone_config.specs.declared.data.Config.{Config}
 use Rattle.replay_log.specs.declared.line.Line.{Line}
 use Rattle.request_script.specs.declared.call.ZoneReply.{ZoneReply}
+use Rattle.request_script.specs.declared.progress.Progress.{Progress}
 use Rattle.request_script.specs.declared.script.Doing.{Doing}
 use Rattle.request_script.specs.declared.script.Doing.TheVariants as doing
 use Rattle.request_script.specs.declared.script.Next.{Next}
@@ -14,7 +15,7 @@ use Rattle.request_script.specs.Turn.{Turn}
 use Rattle.request_script.specs.Turn.Turn.{asks, decides}
 use Rattle.request_script.specs.Steps.{turn_of}
 use Rattle.request_script.specs.Drive.{Table, with_active}
-use Rattle.request_script.specs.Progress.{rest}
+use Rattle.request_script.specs.Progress.{left_of, rest}
 
 -- ---- what a script is
 
@@ -67,11 +68,16 @@ MayAnswer spent = Unit {0}
 -- ---- what the fields mean
 
 -- what a script is at
-abbrev pub stage_of : Config → Doing → Stage
-stage_of config doing.Between = between
-stage_of config (doing.Waits conn progress) = waits conn (rest config progress)
-stage_of config doing.Spent = spent
+abbrev pub stage_of : Config → Doing → Progress → Stage
+stage_of config doing.Between progress = between
+stage_of config (doing.Waits conn) progress = waits conn (rest config progress)
+stage_of config doing.Spent progress = spent
 
 -- the state of a script
 abbrev pub state_of : Script → ScriptState
-state_of script = record { config = script.config.now; table = get nat_cmp script.active; stage = stage_of script.config.now script.doing }
+state_of script = record { config = script.config.now; table = get nat_cmp script.active; stage = stage_of script.config.now script.doing script.progress }
+
+-- the table has what is left behind the line of a connection, and the configuration is the same
+pub record Leaves (old new : Script) (conn : ℕ) : Type 0 where
+  pub config : new.config.now ≡ old.config.now
+  pub table : get nat_cmp new.active ≡ with_active (get nat_cmp old.active) conn (left_of old.progress.opened old.progress.left)

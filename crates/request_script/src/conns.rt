@@ -1,14 +1,14 @@
-ghost use Rattle.std.specs.Prelude.{◌≡◌, reverse, IfOk};
+ghost use Rattle.std.specs.Prelude.{◌≡◌, [], reverse, IfOk};
 ghost use Rattle.request_script.specs.ConnLimits.{after_open, closes, conn_passed, conn_refused, opened_in};
 ghost use Rattle.request_script.specs.Steps.{is_conn_refusal, is_req_refusal};
-ghost use Rattle.request_script.specs.Progress.{HasFewServers, behind_closes, behind_conns, behind_reqs, conns_from, level_of, step_turn};
+ghost use Rattle.request_script.specs.Progress.{HasFewServers, behind_closes, behind_conns, behind_reqs, conns_from, level_of, next_turn};
 
 use crate::active::Opened;
 use crate::call::ZoneCall;
-use crate::decision::{ConnStatus, Outcome, ReqStatus};
-use crate::peers::{peer_step, started};
-use crate::progress::{Behind, Opening, Progress, Step};
-use crate::said::ReqSaid;
+use crate::decision::{ConnStatus, Decision, Outcome, ReqStatus};
+use crate::peers::{decided, peer_step, started, without_peer};
+use crate::progress::{Asked, Behind, Left, Progress};
+use crate::script::Next;
 use crate::zones::{is_skipped, key_of, level_at};
 use conn_zone::{ConnCall, ConnReply};
 use sqlite_items::Items;
@@ -53,7 +53,7 @@ fn conn_refused(dry: bool, zone: u32) -> ConnStatus
 }
 
 /// A copy of a limit.
-fn copy_of(limit: &ConnLimit) -> ConnLimit
+pub(crate) fn copy_of(limit: &ConnLimit) -> ConnLimit
     ensures { result ≡ limit.now }
 {
     ConnLimit {
@@ -63,91 +63,80 @@ fn copy_of(limit: &ConnLimit) -> ConnLimit
 }
 
 /// What follows the limits of connections.
-#[inline(always)]
-fn after_conns(
-    config: &Config,
-    opening: &Opening,
-    said: ReqSaid,
-    conns: ConnStatus,
-    opened: Items<Opened>,
-) -> Step
+fn after_conns(config: &Config, progress: &mut Progress, conns: ConnStatus) -> Next
     requires { HasFewServers config.now }
-    ensures { step_turn config.now result ≡ behind_conns config.now opening.now said conns opened }
+    ensures { next_turn config.now progress.new result ≡ behind_conns config.now progress.old.opening progress.old.said conns progress.old.opened }
 {
     if is_conn_refusal(conns) {
-        let status = level_at(config, opening.location).conn_status;
-        Step::Told {
-            decision: started(Outcome::Limited { status }, said, conns, None),
-            active: None,
-        }
+        let status = level_at(config, progress.opening.location).conn_status;
+        let decision = started(Outcome::Limited { status }, progress.said, conns, None);
+        decided(progress, decision, Left::Nothing)
     } else {
-        peer_step(config, opening, said, conns, opened)
+        peer_step(config, progress, conns)
     }
 }
 
-/// What follows when connections are closed.
-#[inline(always)]
-fn after_closes(alloc: Global, config: &Config, behind: Behind) -> Step
-    requires { HasFewServers config.now }
-    ensures { step_turn config.now result ≡ behind_closes config.now behind }
+/// What follows when the connections are closed.
+fn after_closes(config: &Config, progress: &mut Progress, behind: Behind) -> Next
+    requires servers { HasFewServers config.now }
+    requires closed { progress.old.opened ≡ [] }
+    ensures { next_turn config.now progress.new result ≡ behind_closes config.now progress.old.opening progress.old.said behind }
 {
     match behind {
-        Behind::Refused {
-            opening,
-            said,
-            zone,
-        } => {
-            let dry = level_at(config, opening.location).conn_dry;
-            let none = Items::new(alloc);
-            after_conns(config, &opening, said, conn_refused(dry, zone), none)
+        Behind::Refused { zone } => {
+            let dry = level_at(config, progress.opening.location).conn_dry;
+            after_conns(config, progress, conn_refused(dry, zone))
         }
-        Behind::Decided { decision } => Step::Told {
-            decision,
-            active: None,
-        },
+        Behind::NoServer { purpose } => {
+            let decision = without_peer(progress.said, purpose);
+            decided(progress, decision, Left::Nothing)
+        }
+        Behind::Failed => decided(progress, Decision::FailGateway, Left::Nothing),
+        Behind::Ended => decided(progress, Decision::Ended, Left::Nothing),
     }
 }
 
-/// Closes these connections, the last one first.
-#[inline(always)]
-pub(crate) fn close(alloc: Global, config: &Config, opened: Items<Opened>, behind: Behind) -> Step
+/// Closes the connections of the request, the last one first.
+pub(crate) fn close(config: &Config, progress: &mut Progress, behind: Behind) -> Next
     requires { HasFewServers config.now }
-    ensures { step_turn config.now result ≡ closes (reverse opened) (behind_closes config.now behind) }
+    ensures { next_turn config.now progress.new result ≡ closes (reverse progress.old.opened) (behind_closes config.now progress.old.opening progress.old.said behind) }
 {
-    let mut opened = opened;
-    match opened.pop() {
-        Some(last) => Step::Ask {
-            call: ZoneCall::Conn {
-                zone: last.zone,
-                call: ConnCall::Close { at: last.at },
-            },
-            progress: Progress::Close { opened, behind },
-        },
-        None => after_closes(alloc, config, behind),
+    match progress.opened.pop() {
+        Some(last) => {
+            progress.asked = Asked::Close { behind };
+            Next::Ask {
+                call: ZoneCall::Conn {
+                    zone: last.zone,
+                    call: ConnCall::Close { at: last.at },
+                },
+            }
+        }
+        None => after_closes(config, progress, behind),
     }
 }
 
-/// Goes along the limits of connections from a place of their list on, of a request that has these connections.
-#[inline(always)]
+/// Goes along the limits of connections from a place of their list on.
 fn walk_conns(
     alloc: Global,
     config: &Config,
-    opening: Opening,
-    said: ReqSaid,
-    opened: Items<Opened>,
+    progress: &mut Progress,
     from: usize,
-) -> Result<Step, NoMemory>
+) -> Result<Next, NoMemory>
     requires { HasFewServers config.now }
-    ensures { IfOk result (λ step. step_turn config.now step ≡ conns_from config.now opening said opened from) }
+    ensures { IfOk result (λ next. next_turn config.now progress.new next ≡ conns_from config.now progress.old.opening progress.old.said progress.old.opened from) }
 {
-    let limits = level_at(config, opening.location).conn.as_slice();
+    let limits = level_at(config, progress.opening.location).conn.as_slice();
     let mut place = from;
     'limits: while place < limits.len() {
         let limit = &limits[place];
         place += 1;
-        let key = key_of(alloc, config, &opening.vars, limit.zone)?;
+        let key = key_of(alloc, config, &progress.opening.vars, limit.zone)?;
         if !is_skipped(255, &key) {
-            return Ok(Step::Ask {
+            progress.asked = Asked::Open {
+                limit: copy_of(limit),
+                behind: place,
+            };
+            return Ok(Next::Ask {
                 call: ZoneCall::Conn {
                     zone: limit.zone,
                     call: ConnCall::Open {
@@ -155,74 +144,55 @@ fn walk_conns(
                         limit: limit.limit,
                     },
                 },
-                progress: Progress::Open {
-                    opening,
-                    said,
-                    opened,
-                    limit: copy_of(limit),
-                    behind: place,
-                },
             });
         }
     }
-    let conns = conn_passed(&opened);
-    Ok(after_conns(config, &opening, said, conns, opened))
+    let conns = conn_passed(&progress.opened);
+    Ok(after_conns(config, progress, conns))
 }
 
 /// What follows the limits of requests.
-#[inline(always)]
 pub(crate) fn after_reqs(
     alloc: Global,
     config: &Config,
-    opening: Opening,
-    said: ReqSaid,
-) -> Result<Step, NoMemory>
+    progress: &mut Progress,
+) -> Result<Next, NoMemory>
     requires { HasFewServers config.now }
-    ensures { IfOk result (λ step. step_turn config.now step ≡ behind_reqs config.now opening said) }
+    ensures { IfOk result (λ next. next_turn config.now progress.new next ≡ behind_reqs config.now progress.old.opening progress.old.said) }
 {
-    if is_req_refusal(said.status) {
-        let status = level_at(config, opening.location).req_status;
-        Ok(Step::Told {
-            decision: started(Outcome::Limited { status }, said, ConnStatus::Unset, None),
-            active: None,
-        })
+    if is_req_refusal(progress.said.status) {
+        let status = level_at(config, progress.opening.location).req_status;
+        let outcome = Outcome::Limited { status };
+        let decision = started(outcome, progress.said, ConnStatus::Unset, None);
+        Ok(decided(progress, decision, Left::Nothing))
     } else {
-        walk_conns(alloc, config, opening, said, Items::new(alloc), 0)
+        progress.opened = Items::new(alloc);
+        walk_conns(alloc, config, progress, 0)
     }
 }
 
-/// What a limit's zone has answered of a request with these connections.
-#[inline(always)]
+/// What a limit's zone has answered of the request.
 pub(crate) fn opened(
     alloc: Global,
     config: &Config,
-    opening: Opening,
-    said: ReqSaid,
-    opened: Items<Opened>,
+    progress: &mut Progress,
     limit: ConnLimit,
     behind: usize,
     reply: ConnReply,
-) -> Result<Step, NoMemory>
+) -> Result<Next, NoMemory>
     requires { HasFewServers config.now }
-    ensures { IfOk result (λ step. step_turn config.now step ≡ after_open config.now opening.vars (level_of config.now opening).conn_dry limit opened (λ more. conns_from config.now opening said more behind) (behind_conns config.now opening said) (opened_in reply)) }
+    ensures { IfOk result (λ next. next_turn config.now progress.new next ≡ after_open config.now progress.old.opening.vars (level_of config.now progress.old.opening).conn_dry limit progress.old.opened (λ more. conns_from config.now progress.old.opening progress.old.said more behind) (behind_conns config.now progress.old.opening progress.old.said) (opened_in reply)) }
 {
-    let mut opened = opened;
     match reply {
         ConnReply::Opened { at, count: _ } => {
-            opened.push(Opened {
+            progress.opened.push(Opened {
                 zone: limit.zone,
                 at,
             })?;
-            walk_conns(alloc, config, opening, said, opened, behind)
+            walk_conns(alloc, config, progress, behind)
         }
         ConnReply::AtLimit { .. } | ConnReply::NoRoom | ConnReply::Closed { .. } => {
-            let zone = limit.zone;
-            let behind = Behind::Refused {
-                opening,
-                said,
-                zone,
-            };
-            Ok(close(alloc, config, opened, behind))
+            Ok(close(config, progress, Behind::Refused { zone: limit.zone }))
         }
     }
 }

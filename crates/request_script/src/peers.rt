@@ -2,16 +2,18 @@ ghost use Rattle.std.specs.Prelude.{◌≡◌, ◌<◌, ◌^◌, bit_or, None, S
 ghost use Rattle.request_script.specs.Peers.{peer_of, seconds, taken_at, tries_left};
 ghost use Rattle.request_script.specs.Replies.{HasSmallIndex};
 ghost use Rattle.request_script.specs.Steps.{ends, fails, peer_step, started, tries_next};
-ghost use Rattle.request_script.specs.Progress.{HasFewServers, behind_call, choice_turn, found, level_of, step_turn, with_peer, without_peer, without_server};
+ghost use Rattle.request_script.specs.Progress.{HasFewServers, behind_call, choice_turn, found, left_of, level_of, next_turn, with_peer, without_peer, without_server};
 ghost use Rattle.zone_config.specs.declared.data.Config.{Config};
+ghost use Rattle.request_script.specs.Turn.Turn.{decides};
 ghost use Rattle.request_script.specs.declared.call.ZoneReply.TheVariants as from;
 
 use crate::active::{Active, Opened, Taken};
 use crate::call::ZoneCall;
 use crate::conns::close;
 use crate::decision::{ConnStatus, Decision, Outcome, PeerAt};
-use crate::progress::{Behind, Choice, Opening, Progress, Purpose, Step};
+use crate::progress::{Asked, Behind, Choice, Left, Progress, Purpose};
 use crate::said::ReqSaid;
+use crate::script::Next;
 use crate::zones::{has_backups, is_single, level_at, servers_up};
 use peer_zone::{PeerCall, PeerReply};
 use sqlite_items::Items;
@@ -58,21 +60,21 @@ fn peer_of(taken: Taken) -> PeerAt
 }
 
 /// The decision where a server is found.
-fn with_peer(purpose: Purpose, peer: PeerAt) -> Decision
-    ensures { result ≡ with_peer purpose peer }
+fn with_peer(said: ReqSaid, purpose: Purpose, peer: PeerAt) -> Decision
+    ensures { result ≡ with_peer said purpose peer }
 {
     match purpose {
-        Purpose::Begin { said, conns } => started(Outcome::Pass, said, conns, Some(peer)),
+        Purpose::Begin { conns } => started(Outcome::Pass, said, conns, Some(peer)),
         Purpose::Next => Decision::NextPeer { peer },
     }
 }
 
 /// The decision where there is none.
-fn without_peer(purpose: Purpose) -> Decision
-    ensures { result ≡ without_peer purpose }
+pub(crate) fn without_peer(said: ReqSaid, purpose: Purpose) -> Decision
+    ensures { result ≡ without_peer said purpose }
 {
     match purpose {
-        Purpose::Begin { said, conns } => started(Outcome::Gateway, said, conns, None),
+        Purpose::Begin { conns } => started(Outcome::Gateway, said, conns, None),
         Purpose::Next => Decision::FailGateway,
     }
 }
@@ -96,12 +98,20 @@ fn tries_left(config: &Config, taken: Taken) -> u64
     }
 }
 
-/// A list is asked for a server.
-#[inline(always)]
-fn choose(choice: Choice) -> Step
-    ensures { (config : Config) → step_turn config result ≡ choice_turn config choice }
+/// A line is decided, and its connection then has what is left.
+pub(crate) fn decided(progress: &mut Progress, decision: Decision, left: Left) -> Next
+    ensures { (config : Config) → next_turn config progress.new result ≡ decides decision (left_of progress.old.opened left) }
 {
-    Step::Ask {
+    progress.left = left;
+    Next::Told { decision }
+}
+
+/// A list is asked for a server.
+fn choose(progress: &mut Progress, choice: Choice) -> Next
+    ensures { (config : Config) → next_turn config progress.new result ≡ choice_turn config progress.old.said progress.old.opened choice }
+{
+    progress.asked = Asked::Choose { choice };
+    Next::Ask {
         call: ZoneCall::Peer {
             zone: choice.zone,
             call: PeerCall::Choose {
@@ -110,47 +120,37 @@ fn choose(choice: Choice) -> Step
                 now: seconds(choice.moment),
             },
         },
-        progress: Progress::Choose { choice },
     }
 }
 
 /// A server is chosen for an open, where its level has an upstream.
-#[inline(always)]
-pub(crate) fn peer_step(
-    config: &Config,
-    opening: &Opening,
-    said: ReqSaid,
-    conns: ConnStatus,
-    opened: Items<Opened>,
-) -> Step
+pub(crate) fn peer_step(config: &Config, progress: &mut Progress, conns: ConnStatus) -> Next
     requires { HasFewServers config.now }
-    ensures { step_turn config.now result ≡ peer_step config.now opening.now.moment opening.now.vars (level_of config.now opening.now) said conns opened }
+    ensures { next_turn config.now progress.new result ≡ peer_step config.now progress.old.opening.moment progress.old.opening.vars (level_of config.now progress.old.opening) progress.old.said conns progress.old.opened }
 {
-    match level_at(config, opening.location).peers {
-        None => Step::Told {
-            decision: started(Outcome::Pass, said, conns, None),
-            active: Some(Active { opened, peer: None }),
-        },
+    match level_at(config, progress.opening.location).peers {
+        None => {
+            let decision = started(Outcome::Pass, progress.said, conns, None);
+            decided(progress, decision, Left::Request { peer: None })
+        }
         Some(zone) => {
             let choice = Choice {
                 zone,
                 tries: servers_up(config, zone),
-                moment: opening.moment,
+                moment: progress.opening.moment,
                 list: 0,
                 tried: 0,
-                purpose: Purpose::Begin { said, conns },
-                opened,
+                purpose: Purpose::Begin { conns },
             };
-            choose(choice)
+            choose(progress, choice)
         }
     }
 }
 
 /// The request has the server of this index of the list that was asked.
-#[inline(always)]
-fn found(choice: Choice, index: u32) -> Step
+fn found(progress: &mut Progress, choice: Choice, index: u32) -> Next
     requires { index < 64 }
-    ensures { (config : Config) → step_turn config result ≡ found choice.purpose choice.opened (taken_at choice.zone choice.tries choice.list choice.tried index) }
+    ensures { (config : Config) → next_turn config progress.new result ≡ found progress.old.said choice.purpose progress.old.opened (taken_at choice.zone choice.tries choice.list choice.tried index) }
 {
     let taken = Taken {
         zone: choice.zone,
@@ -159,20 +159,14 @@ fn found(choice: Choice, index: u32) -> Step
         tried: tried_with(choice.tried, index),
         tries: choice.tries,
     };
-    Step::Told {
-        decision: with_peer(choice.purpose, peer_of(taken)),
-        active: Some(Active {
-            opened: choice.opened,
-            peer: Some(taken),
-        }),
-    }
+    let decision = with_peer(progress.said, choice.purpose, peer_of(taken));
+    decided(progress, decision, Left::Request { peer: Some(taken) })
 }
 
 /// The list that was asked has no server: the backup list is asked with nothing tried, or the request has none.
-#[inline(always)]
-fn not_found(alloc: Global, config: &Config, choice: Choice) -> Step
+fn not_found(config: &Config, progress: &mut Progress, choice: Choice) -> Next
     requires { HasFewServers config.now }
-    ensures { step_turn config.now result ≡ without_server config.now choice }
+    ensures { next_turn config.now progress.new result ≡ without_server config.now progress.old.said progress.old.opened choice }
 {
     if choice.list == 0 && has_backups(config, choice.zone) {
         let choice = Choice {
@@ -182,30 +176,32 @@ fn not_found(alloc: Global, config: &Config, choice: Choice) -> Step
             list: 1,
             tried: 0,
             purpose: choice.purpose,
-            opened: choice.opened,
         };
-        choose(choice)
+        choose(progress, choice)
     } else {
-        let decision = without_peer(choice.purpose);
-        close(alloc, config, choice.opened, Behind::Decided { decision })
+        let purpose = choice.purpose;
+        close(config, progress, Behind::NoServer { purpose })
     }
 }
 
 /// What a list has answered.
-#[inline(always)]
-pub(crate) fn chosen(alloc: Global, config: &Config, choice: Choice, reply: PeerReply) -> Step
+pub(crate) fn chosen(
+    config: &Config,
+    progress: &mut Progress,
+    choice: Choice,
+    reply: PeerReply,
+) -> Next
     requires servers { HasFewServers config.now }
     requires range { HasSmallIndex reply }
-    ensures { step_turn config.now result ≡ behind_call (choice_turn config.now choice) (from.Peer reply) }
+    ensures { next_turn config.now progress.new result ≡ behind_call (choice_turn config.now progress.old.said progress.old.opened choice) (from.Peer reply) }
 {
     match reply {
-        PeerReply::Peer { index } => found(choice, index),
-        PeerReply::NoPeer | PeerReply::Freed => not_found(alloc, config, choice),
+        PeerReply::Peer { index } => found(progress, choice, index),
+        PeerReply::NoPeer | PeerReply::Freed => not_found(config, progress, choice),
     }
 }
 
 /// A server is given back, as failed or as good.
-#[inline(always)]
 fn free(taken: Taken, failed: bool, now: u64) -> ZoneCall
     ensures { result ≡ ZoneCall.Peer taken.zone (PeerCall.Free taken.list taken.index failed (seconds now)) }
 {
@@ -221,40 +217,32 @@ fn free(taken: Taken, failed: bool, now: u64) -> ZoneCall
 }
 
 /// The server of an active request has failed, or the request itself where it has none.
-#[inline(always)]
 pub(crate) fn fails(
     alloc: Global,
     config: &Config,
+    progress: &mut Progress,
     active: &Active,
     now: u64,
-) -> Result<Step, NoMemory>
+) -> Result<Next, NoMemory>
     requires { HasFewServers config.now }
-    ensures { IfOk result (λ step. step_turn config.now step ≡ fails config.now now active.now) }
+    ensures { IfOk result (λ next. next_turn config.now progress.new next ≡ fails config.now now active.now) }
 {
-    let opened = Items::from_slice(alloc, active.opened.as_slice())?;
+    progress.opened = Items::from_slice(alloc, active.opened.as_slice())?;
     match active.peer {
-        None => {
-            let decision = Decision::FailGateway;
-            Ok(close(alloc, config, opened, Behind::Decided { decision }))
+        None => Ok(close(config, progress, Behind::Failed)),
+        Some(taken) => {
+            progress.asked = Asked::Fail { taken, now };
+            Ok(Next::Ask {
+                call: free(taken, true, now),
+            })
         }
-        Some(taken) => Ok(Step::Ask {
-            call: free(taken, true, now),
-            progress: Progress::Fail { taken, opened, now },
-        }),
     }
 }
 
 /// The server that failed is given back: another is chosen, if a try is left.
-#[inline(always)]
-pub(crate) fn tries_next(
-    alloc: Global,
-    config: &Config,
-    taken: Taken,
-    opened: Items<Opened>,
-    now: u64,
-) -> Step
+pub(crate) fn tries_next(config: &Config, progress: &mut Progress, taken: Taken, now: u64) -> Next
     requires { HasFewServers config.now }
-    ensures { step_turn config.now result ≡ tries_next config.now now (record { opened = opened; peer = Some taken }) taken }
+    ensures { next_turn config.now progress.new result ≡ tries_next config.now now (record { opened = progress.old.opened; peer = Some taken }) taken }
 {
     let tries = tries_left(config, taken);
     if 0 < tries {
@@ -265,35 +253,32 @@ pub(crate) fn tries_next(
             list: taken.list,
             tried: taken.tried,
             purpose: Purpose::Next,
-            opened,
         };
-        choose(choice)
+        choose(progress, choice)
     } else {
-        let decision = Decision::FailGateway;
-        close(alloc, config, opened, Behind::Decided { decision })
+        close(config, progress, Behind::Failed)
     }
 }
 
 /// An active request ends.
-#[inline(always)]
 pub(crate) fn ends(
     alloc: Global,
     config: &Config,
+    progress: &mut Progress,
     active: &Active,
     now: u64,
-) -> Result<Step, NoMemory>
+) -> Result<Next, NoMemory>
     requires { HasFewServers config.now }
-    ensures { IfOk result (λ step. step_turn config.now step ≡ ends config.now now active.now) }
+    ensures { IfOk result (λ next. next_turn config.now progress.new next ≡ ends config.now now active.now) }
 {
-    let opened = Items::from_slice(alloc, active.opened.as_slice())?;
+    progress.opened = Items::from_slice(alloc, active.opened.as_slice())?;
     match active.peer {
-        None => {
-            let decision = Decision::Ended;
-            Ok(close(alloc, config, opened, Behind::Decided { decision }))
+        None => Ok(close(config, progress, Behind::Ended)),
+        Some(taken) => {
+            progress.asked = Asked::Done;
+            Ok(Next::Ask {
+                call: free(taken, false, now),
+            })
         }
-        Some(taken) => Ok(Step::Ask {
-            call: free(taken, false, now),
-            progress: Progress::Done { opened },
-        }),
     }
 }

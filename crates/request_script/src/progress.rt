@@ -1,12 +1,11 @@
-use crate::active::{Active, Opened, Taken};
-use crate::call::ZoneCall;
-use crate::decision::{ConnStatus, Decision};
+use crate::active::{Opened, Taken};
+use crate::decision::ConnStatus;
 use crate::said::{Delay, Hold, ReqSaid};
 use sqlite_items::Items;
 use zone_config::{ConnLimit, ReqLimit};
 use zone_key::Vars;
 
-/// An open that is under way.
+/// An open of a request.
 #[derive(Debug, Drop)]
 pub(crate) struct Opening {
     /// The number of its location, or none at the server itself.
@@ -17,32 +16,17 @@ pub(crate) struct Opening {
     pub(crate) vars: Vars,
 }
 
-/// What follows when connections are closed.
-#[derive(Debug, Drop)]
-pub(crate) enum Behind {
-    /// The limit of this zone has refused an open, or would refuse it in a dry run.
-    Refused {
-        opening: Opening,
-        said: ReqSaid,
-        zone: u32,
-    },
-    /// The line is decided, and the connection has no active request.
-    Decided {
-        decision: Decision,
-    },
-}
-
 /// What a server is chosen for.
 #[derive(Clone, Copy, Debug)]
 pub(crate) enum Purpose {
-    /// For an open, of which the limits said this.
-    Begin { said: ReqSaid, conns: ConnStatus },
+    /// For an open, of which the limits of connections said this.
+    Begin { conns: ConnStatus },
     /// For a request whose server failed.
     Next,
 }
 
 /// A choice of a server.
-#[derive(Debug, Drop)]
+#[derive(Clone, Copy, Debug)]
 pub(crate) struct Choice {
     /// The number of the upstream's zone.
     pub(crate) zone: u32,
@@ -56,72 +40,66 @@ pub(crate) struct Choice {
     pub(crate) tried: u64,
     /// What it is for.
     pub(crate) purpose: Purpose,
-    /// The connections that are counted for the request.
-    pub(crate) opened: Items<Opened>,
 }
 
-/// Which call to a request zone was asked last.
+/// What follows when connections are closed.
+#[derive(Clone, Copy, Debug)]
+pub(crate) enum Behind {
+    /// The limit of this zone has refused an open, or would refuse it in a dry run.
+    Refused { zone: u32 },
+    /// No server was found, and the connection has no active request.
+    NoServer { purpose: Purpose },
+    /// The request has failed, and the connection has no active request.
+    Failed,
+    /// The request has ended, and the connection has no active request.
+    Ended,
+}
+
+/// Which call of a line was asked last.
 #[derive(Debug, Drop)]
-pub(crate) enum ReqAsked {
-    /// A check of a limit; `behind` is the place of the limit behind it.
+pub(crate) enum Asked {
+    /// A check of a limit of requests; `behind` is the place of the limit behind it.
     Check { limit: ReqLimit, behind: usize },
     /// A hold is let go, and then those that are left, the last one first.
-    Release { said: ReqSaid },
+    Release,
     /// A hold is accounted, and then those that are left, the last one first.
     Account { hold: Hold, greatest: Delay },
-}
-
-/// Which call of a line was asked last, and what is known for what follows.
-#[derive(Debug, Drop)]
-pub(crate) enum Progress {
-    /// A request zone was asked, of a request with these holds.
-    Reqs {
-        opening: Opening,
-        holds: Items<Hold>,
-        asked: ReqAsked,
-    },
     /// An open of a connection by a limit; `behind` is the place of the limit behind it.
-    Open {
-        opening: Opening,
-        said: ReqSaid,
-        opened: Items<Opened>,
-        limit: ConnLimit,
-        behind: usize,
-    },
-    /// A connection is closed, and these are left, of which the last is the next.
-    Close {
-        opened: Items<Opened>,
-        behind: Behind,
-    },
+    Open { limit: ConnLimit, behind: usize },
+    /// A connection is closed, and then those that are left, the last one first.
+    Close { behind: Behind },
     /// A server is chosen.
-    Choose {
-        choice: Choice,
-    },
-    /// A server is given back as failed.
-    Fail {
-        taken: Taken,
-        opened: Items<Opened>,
-        now: u64,
-    },
+    Choose { choice: Choice },
+    /// A server is given back as failed at this moment in ms.
+    Fail { taken: Taken, now: u64 },
     /// A server is given back as good, at the end of its request.
-    Done {
-        opened: Items<Opened>,
-    },
+    Done,
 }
 
-/// Where a turn has come.
+/// What a connection has when its line is decided.
+#[derive(Clone, Copy, Debug)]
+pub(crate) enum Left {
+    /// No active request.
+    Nothing,
+    /// An active request that has the connections of the line, and this server.
+    Request { peer: Option<Taken> },
+}
+
+/// How far a line is: which call it asked last, and what is known for what follows.
 ///
-/// It is a large value, and a call that hands it on copies it: so the functions of the steps are inlined.
+/// It is a large value: it stays in its place from line to line, and a step changes what it alters.
 #[derive(Debug, Drop)]
-pub(crate) enum Step {
-    /// It asks a call.
-    Ask {
-        call: ZoneCall,
-        progress: Progress,
-    },
-    /// The line is decided, and the connection then has this active request, or none.
-    Told {
-        decision: Decision,
-        active: Option<Active>,
-    },
+pub(crate) struct Progress {
+    /// The open that is under way, or that was the last one.
+    pub(crate) opening: Opening,
+    /// What the limits of requests said of it.
+    pub(crate) said: ReqSaid,
+    /// The holds of its request.
+    pub(crate) holds: Items<Hold>,
+    /// The connections that are counted for the request of the line.
+    pub(crate) opened: Items<Opened>,
+    /// The call.
+    pub(crate) asked: Asked,
+    /// What is left behind the decision, where the line is decided.
+    pub(crate) left: Left,
 }

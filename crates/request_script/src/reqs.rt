@@ -1,22 +1,22 @@
 ghost use Rattle.std.specs.Prelude.{◌≡◌, ◌<◌, ◌^◌, reverse, IfOk};
 ghost use Rattle.request_script.specs.Replies.{HasSmallExcess};
 ghost use Rattle.request_script.specs.ReqLimits.{accounted, accounts, after_check, allowed_of, delay_by, delayed, greater, refused, releases, unset, walk_ends};
-ghost use Rattle.request_script.specs.Progress.{HasFewServers, HasRates, behind_reqs, behind_asked, level_of, reqs_from, step_turn};
+ghost use Rattle.request_script.specs.Progress.{HasFewServers, HasRates, behind_reqs, level_of, reqs_from, next_turn};
 
 use crate::call::ZoneCall;
 use crate::conns::after_reqs;
 use crate::decision::{Excess, ReqStatus};
-use crate::progress::{Opening, Progress, ReqAsked, Step};
+use crate::progress::{Asked, Progress};
 use crate::said::{Delay, Hold, ReqSaid};
+use crate::script::Next;
 use crate::zones::{is_skipped, key_of, level_at, rate_of};
 use req_zone::{Allowed, ReqCall, ReqReply, delay};
-use sqlite_items::Items;
 use std::alloc::Global;
 use zone_config::{Config, ReqLimit};
 use zone_outside::NoMemory;
 
 /// No limit was asked.
-fn unset() -> ReqSaid
+pub(crate) fn unset() -> ReqSaid
     ensures { result ≡ unset }
 {
     ReqSaid {
@@ -104,7 +104,7 @@ fn greater(first: Delay, second: Delay) -> Delay
 }
 
 /// A copy of a limit.
-fn copy_of(limit: &ReqLimit) -> ReqLimit
+pub(crate) fn copy_of(limit: &ReqLimit) -> ReqLimit
     ensures { result ≡ limit.now }
 {
     ReqLimit {
@@ -115,175 +115,148 @@ fn copy_of(limit: &ReqLimit) -> ReqLimit
     }
 }
 
-/// Lets these holds go, the last one first.
-#[inline(always)]
-fn release(
+/// Lets the holds of the request go, the last one first.
+pub(crate) fn release(
     alloc: Global,
     config: &Config,
-    opening: Opening,
-    holds: Items<Hold>,
-    said: ReqSaid,
-) -> Result<Step, NoMemory>
+    progress: &mut Progress,
+) -> Result<Next, NoMemory>
     requires { HasFewServers config.now }
-    ensures { IfOk result (λ step. step_turn config.now step ≡ releases (reverse holds) (behind_reqs config.now opening said)) }
+    ensures { IfOk result (λ next. next_turn config.now progress.new next ≡ releases (reverse progress.old.holds) (behind_reqs config.now progress.old.opening progress.old.said)) }
 {
-    let mut holds = holds;
-    let Some(hold) = holds.pop() else {
-        return after_reqs(alloc, config, opening, said);
+    let Some(hold) = progress.holds.pop() else {
+        return after_reqs(alloc, config, progress);
     };
-    Ok(Step::Ask {
+    progress.asked = Asked::Release;
+    Ok(Next::Ask {
         call: ZoneCall::Req {
             zone: hold.zone,
             call: ReqCall::Release { at: hold.at },
         },
-        progress: Progress::Reqs {
-            opening,
-            holds,
-            asked: ReqAsked::Release { said },
-        },
     })
 }
 
-/// Accounts these holds, the last one first, where this is the greatest delay so far.
-#[inline(always)]
+/// Accounts the holds of the request, the last one first, where this is the greatest delay so far.
 fn account(
     alloc: Global,
     config: &Config,
-    opening: Opening,
-    holds: Items<Hold>,
+    progress: &mut Progress,
     greatest: Delay,
-) -> Result<Step, NoMemory>
+) -> Result<Next, NoMemory>
     requires { HasFewServers config.now }
-    ensures { IfOk result (λ step. step_turn config.now step ≡ accounts config.now opening.moment opening.vars (level_of config.now opening).req_dry greatest (reverse holds) (behind_reqs config.now opening)) }
+    ensures { IfOk result (λ next. next_turn config.now progress.new next ≡ accounts config.now progress.old.opening.moment progress.old.opening.vars (level_of config.now progress.old.opening).req_dry greatest (reverse progress.old.holds) (behind_reqs config.now progress.old.opening)) }
 {
-    let mut holds = holds;
-    match holds.pop() {
-        Some(hold) => Ok(Step::Ask {
-            call: ZoneCall::Req {
-                zone: hold.zone,
-                call: ReqCall::Account {
-                    at: hold.at,
-                    now: opening.moment,
+    match progress.holds.pop() {
+        Some(hold) => {
+            progress.asked = Asked::Account { hold, greatest };
+            Ok(Next::Ask {
+                call: ZoneCall::Req {
+                    zone: hold.zone,
+                    call: ReqCall::Account {
+                        at: hold.at,
+                        now: progress.opening.moment,
+                    },
                 },
-            },
-            progress: Progress::Reqs {
-                opening,
-                holds,
-                asked: ReqAsked::Account { hold, greatest },
-            },
-        }),
+            })
+        }
         None => {
-            let dry = level_at(config, opening.location).req_dry;
-            after_reqs(alloc, config, opening, delayed(dry, greatest))
+            let dry = level_at(config, progress.opening.location).req_dry;
+            progress.said = delayed(dry, greatest);
+            after_reqs(alloc, config, progress)
         }
     }
 }
 
 /// The walk has come to the end of its list.
-#[inline(always)]
-fn walk_ends(
-    alloc: Global,
-    config: &Config,
-    opening: Opening,
-    holds: Items<Hold>,
-) -> Result<Step, NoMemory>
+fn walk_ends(alloc: Global, config: &Config, progress: &mut Progress) -> Result<Next, NoMemory>
     requires { HasFewServers config.now }
-    ensures { IfOk result (λ step. step_turn config.now step ≡ walk_ends config.now opening.moment opening.vars (level_of config.now opening).req_dry holds (behind_reqs config.now opening)) }
+    ensures { IfOk result (λ next. next_turn config.now progress.new next ≡ walk_ends config.now progress.old.opening.moment progress.old.opening.vars (level_of config.now progress.old.opening).req_dry progress.old.holds (behind_reqs config.now progress.old.opening)) }
 {
-    if holds.is_empty() {
-        after_reqs(alloc, config, opening, unset())
+    if progress.holds.is_empty() {
+        progress.said = unset();
+        after_reqs(alloc, config, progress)
     } else {
         let none = Delay {
             ms: 0,
             zone: 0,
             excess: 0,
         };
-        account(alloc, config, opening, holds, none)
+        account(alloc, config, progress, none)
     }
 }
 
-/// Goes along the limits of requests from a place of their list on, of a request that has these holds.
-#[inline(always)]
+/// Goes along the limits of requests from a place of their list on.
 pub(crate) fn walk_reqs(
     alloc: Global,
     config: &Config,
-    opening: Opening,
-    holds: Items<Hold>,
+    progress: &mut Progress,
     from: usize,
-) -> Result<Step, NoMemory>
+) -> Result<Next, NoMemory>
     requires { HasFewServers config.now }
-    ensures { IfOk result (λ step. step_turn config.now step ≡ reqs_from config.now opening holds from) }
+    ensures { IfOk result (λ next. next_turn config.now progress.new next ≡ reqs_from config.now progress.old.opening progress.old.holds from) }
 {
-    let limits = level_at(config, opening.location).req.as_slice();
+    let limits = level_at(config, progress.opening.location).req.as_slice();
     let mut place = from;
     'limits: while place < limits.len() {
         let limit = &limits[place];
         place += 1;
-        let key = key_of(alloc, config, &opening.vars, limit.zone)?;
+        let key = key_of(alloc, config, &progress.opening.vars, limit.zone)?;
         if !is_skipped(65_535, &key) {
-            let call = ReqCall::Check {
-                key,
-                now: opening.moment,
-                burst: limit.burst,
-                last: place == limits.len(),
+            progress.asked = Asked::Check {
+                limit: copy_of(limit),
+                behind: place,
             };
-            return Ok(Step::Ask {
+            return Ok(Next::Ask {
                 call: ZoneCall::Req {
                     zone: limit.zone,
-                    call,
-                },
-                progress: Progress::Reqs {
-                    opening,
-                    holds,
-                    asked: ReqAsked::Check {
-                        limit: copy_of(limit),
-                        behind: place,
+                    call: ReqCall::Check {
+                        key,
+                        now: progress.opening.moment,
+                        burst: limit.burst,
+                        last: place == limits.len(),
                     },
                 },
             });
         }
     }
-    walk_ends(alloc, config, opening, holds)
+    walk_ends(alloc, config, progress)
 }
 
-/// What a limit's zone has answered of a request with these holds.
-#[inline(always)]
-fn checked(
+/// What a limit's zone has answered of the request.
+pub(crate) fn checked(
     alloc: Global,
     config: &Config,
-    opening: Opening,
-    holds: Items<Hold>,
+    progress: &mut Progress,
     limit: ReqLimit,
     behind: usize,
     reply: ReqReply,
-) -> Result<Step, NoMemory>
+) -> Result<Next, NoMemory>
     requires rates { HasRates config.now }
     requires servers { HasFewServers config.now }
     requires range { HasSmallExcess reply }
-    ensures { IfOk result (λ step. step_turn config.now step ≡ after_check config.now opening.moment opening.vars (level_of config.now opening).req_dry limit holds (λ more. reqs_from config.now opening more behind) (behind_reqs config.now opening) reply) }
+    ensures { IfOk result (λ next. next_turn config.now progress.new next ≡ after_check config.now progress.old.opening.moment progress.old.opening.vars (level_of config.now progress.old.opening).req_dry limit progress.old.holds (λ more. reqs_from config.now progress.old.opening more behind) (behind_reqs config.now progress.old.opening) reply) }
 {
-    let mut holds = holds;
-    let dry = level_at(config, opening.location).req_dry;
+    let dry = level_at(config, progress.opening.location).req_dry;
     match reply {
         ReqReply::Again { excess: _, at } => {
-            holds.push(Hold {
+            progress.holds.push(Hold {
                 zone: limit.zone,
                 at,
                 allowed: allowed_of(&limit),
             })?;
-            walk_reqs(alloc, config, opening, holds, behind)
+            walk_reqs(alloc, config, progress, behind)
         }
         ReqReply::Pass { excess } => {
             let delay = delay_by(config, limit.zone, allowed_of(&limit), excess);
-            account(alloc, config, opening, holds, delay)
+            account(alloc, config, progress, delay)
         }
         ReqReply::Busy { excess } => {
-            let said = refused(dry, limit.zone, Excess::Amount { value: excess });
-            release(alloc, config, opening, holds, said)
+            progress.said = refused(dry, limit.zone, Excess::Amount { value: excess });
+            release(alloc, config, progress)
         }
         ReqReply::NoRoom { .. } | ReqReply::Accounted { .. } | ReqReply::Released => {
-            let said = refused(dry, limit.zone, Excess::Full);
-            release(alloc, config, opening, holds, said)
+            progress.said = refused(dry, limit.zone, Excess::Full);
+            release(alloc, config, progress)
         }
     }
 }
@@ -301,48 +274,20 @@ fn accounted(reply: ReqReply) -> u64
     }
 }
 
-/// A hold was accounted with this reply, and these are left.
-#[inline(always)]
-fn account_more(
+/// A hold was accounted with this reply.
+pub(crate) fn account_more(
     alloc: Global,
     config: &Config,
-    opening: Opening,
-    holds: Items<Hold>,
+    progress: &mut Progress,
     hold: Hold,
     greatest: Delay,
     reply: ReqReply,
-) -> Result<Step, NoMemory>
+) -> Result<Next, NoMemory>
     requires rates { HasRates config.now }
     requires servers { HasFewServers config.now }
     requires range { HasSmallExcess reply }
-    ensures { IfOk result (λ step. step_turn config.now step ≡ accounts config.now opening.moment opening.vars (level_of config.now opening).req_dry (greater greatest (delay_by config.now hold.zone hold.allowed (accounted reply))) (reverse holds) (behind_reqs config.now opening)) }
+    ensures { IfOk result (λ next. next_turn config.now progress.new next ≡ accounts config.now progress.old.opening.moment progress.old.opening.vars (level_of config.now progress.old.opening).req_dry (greater greatest (delay_by config.now hold.zone hold.allowed (accounted reply))) (reverse progress.old.holds) (behind_reqs config.now progress.old.opening)) }
 {
     let delay = delay_by(config, hold.zone, hold.allowed, accounted(reply));
-    account(alloc, config, opening, holds, greater(greatest, delay))
-}
-
-/// A request zone has answered what was asked of a request with these holds.
-#[inline(always)]
-pub(crate) fn answered(
-    alloc: Global,
-    config: &Config,
-    opening: Opening,
-    holds: Items<Hold>,
-    asked: ReqAsked,
-    reply: ReqReply,
-) -> Result<Step, NoMemory>
-    requires rates { HasRates config.now }
-    requires servers { HasFewServers config.now }
-    requires range { HasSmallExcess reply }
-    ensures { IfOk result (λ step. step_turn config.now step ≡ behind_asked config.now opening holds asked reply) }
-{
-    match asked {
-        ReqAsked::Check { limit, behind } => {
-            checked(alloc, config, opening, holds, limit, behind, reply)
-        }
-        ReqAsked::Release { said } => release(alloc, config, opening, holds, said),
-        ReqAsked::Account { hold, greatest } => {
-            account_more(alloc, config, opening, holds, hold, greatest, reply)
-        }
-    }
+    account(alloc, config, progress, greater(greatest, delay))
 }

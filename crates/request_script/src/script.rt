@@ -4,13 +4,16 @@ ghost use Rattle.request_script.specs.Progress.{HasFewServers, HasRates};
 use crate::active::Active;
 use crate::call::{ZoneCall, ZoneReply};
 use crate::decision::Decision;
-use crate::progress::{Progress, Step};
+use crate::progress::{Asked, Left, Opening, Progress};
+use crate::reqs::unset;
 use crate::steps::{first_step, next_step};
 use replay_log::Line;
+use sqlite_items::Items;
 use std::alloc::Global;
 use std::collections::BTreeMap;
 use std::mem::replace;
 use zone_config::Config;
+use zone_key::Vars;
 use zone_outside::NoMemory;
 
 /// What a script says next of its line.
@@ -23,11 +26,30 @@ pub enum Next {
 }
 
 /// What a script is at.
-#[derive(Debug, Drop)]
+#[derive(Clone, Copy, Debug)]
 enum Doing {
     Between,
-    Waits { conn: u32, progress: Progress },
+    Waits { conn: u32 },
     Spent,
+}
+
+/// The progress of a script that had no line yet.
+fn no_progress(alloc: Global) -> Progress {
+    Progress {
+        opening: Opening {
+            location: None,
+            moment: 0,
+            vars: Vars {
+                address: [0; 4],
+                pairs: Items::new(alloc),
+            },
+        },
+        said: unset(),
+        holds: Items::new(alloc),
+        opened: Items::new(alloc),
+        asked: Asked::Done,
+        left: Left::Nothing,
+    }
 }
 
 /// The steps of the requests of a log, or of a share of it: line by line, it says which zone is asked what, takes the
@@ -38,18 +60,19 @@ pub struct Script<'a> {
     config: &'a Config,
     active: BTreeMap<u32, Active>,
     doing: Doing,
+    progress: Progress,
     ghost rates: { HasRates config.now },
     ghost servers: { HasFewServers config.now },
 }
 
 impl<'a> Script<'a> {
-    ghost use Rattle.std.specs.Prelude.{ℕ, ◌≡◌, MatchResult, IsErr};
+    ghost use Rattle.std.specs.Prelude.{ℕ, ◌≡◌, MatchResult, OnOk, OnErr, IsErr};
     ghost use Rattle.request_script.specs.declared.call.ZoneReply.{ZoneReply};
     ghost use Rattle.request_script.specs.Turn.{Turn};
-    ghost use Rattle.request_script.specs.Progress.{step_turn};
+    ghost use Rattle.request_script.specs.Progress.{next_turn};
     ghost use Rattle.request_script.specs.Drive.{nothing_active};
     ghost use Rattle.request_script.specs.Replies.{IsInRange};
-    ghost use Rattle.request_script.specs.Script.{Stage, begins, Comes, MayAnswer, MayBegin, state_of};
+    ghost use Rattle.request_script.specs.Script.{Stage, begins, Comes, Leaves, MayAnswer, MayBegin, state_of};
     ghost use Rattle.request_script.specs.Script.Stage.{between, spent, waits};
 
     /// A script of this configuration, before its first line: no connection has an active request.
@@ -62,6 +85,7 @@ impl<'a> Script<'a> {
             config,
             active: BTreeMap::new(alloc),
             doing: Doing::Between,
+            progress: no_progress(alloc),
         }
     }
 
@@ -72,10 +96,14 @@ impl<'a> Script<'a> {
         ensures value { MatchResult result (λ next. Comes (state_of self.old) (state_of self.new) line.now.conn (begins (state_of self.old) line.now) next) (λ _. (state_of self.new).stage ≡ spent) }
         ensures spent { (state_of self.old).stage ≡ spent → IsErr result }
     {
-        match replace(&mut self.doing, Doing::Spent) {
+        match self.doing {
             Doing::Between => {
-                let step = first_step(self.alloc, self.config, self.active.get(&line.conn), line)?;
-                self.goes(line.conn, step)
+                self.doing = Doing::Spent;
+                let active = self.active.get(&line.conn);
+                let progress = &mut self.progress;
+                let next = first_step(self.alloc, self.config, progress, active, line)?;
+                self.goes(line.conn, &next)?;
+                Ok(next)
             }
             Doing::Waits { .. } | Doing::Spent => Err(NoMemory),
         }
@@ -90,37 +118,47 @@ impl<'a> Script<'a> {
         ensures value { MatchResult result (λ next. (conn : ℕ) (rest : ZoneReply → Turn) → (state_of self.old).stage ≡ waits conn rest → Comes (state_of self.old) (state_of self.new) conn (rest reply) next) (λ _. (state_of self.new).stage ≡ spent) }
         ensures spent { (state_of self.old).stage ≡ spent → IsErr result }
     {
-        match replace(&mut self.doing, Doing::Spent) {
-            Doing::Waits { conn, progress } => {
-                let step = next_step(self.alloc, self.config, progress, reply)?;
-                self.goes(conn, step)
+        match self.doing {
+            Doing::Waits { conn } => {
+                self.doing = Doing::Spent;
+                let next = next_step(self.alloc, self.config, &mut self.progress, reply)?;
+                self.goes(conn, &next)?;
+                Ok(next)
             }
             Doing::Between | Doing::Spent => Err(NoMemory),
         }
     }
 
-    /// The line of this connection has come to a step.
-    #[inline(always)]
-    fn goes(&mut self, conn: u32, step: Step) -> Result<Next, NoMemory>
-        ensures { MatchResult result (λ next. Comes (state_of self.old) (state_of self.new) conn (step_turn self.old.config.now step) next) (λ _. (state_of self.new).stage ≡ (state_of self.old).stage) }
+    /// The line of this connection has come to a call, or to its decision.
+    fn goes(&mut self, conn: u32, next: &Next) -> Result<(), NoMemory>
+        ensures value { OnOk result (Comes (state_of self.old) (state_of self.new) conn (next_turn self.old.config.now self.old.progress next.now) next.now) }
+        ensures kept { OnErr result (self.new.doing ≡ self.old.doing) }
     {
-        match step {
-            Step::Ask { call, progress } => {
-                self.doing = Doing::Waits { conn, progress };
-                Ok(Next::Ask { call })
-            }
-            Step::Told { decision, active } => {
-                match active {
-                    Some(active) => {
-                        let _ = self.active.insert(conn, active)?;
-                    }
-                    None => {
-                        let _ = self.active.remove(&conn);
-                    }
-                }
+        match next {
+            Next::Ask { .. } => self.doing = Doing::Waits { conn },
+            Next::Told { .. } => {
+                self.leave(conn)?;
                 self.doing = Doing::Between;
-                Ok(Next::Told { decision })
             }
         }
+        Ok(())
+    }
+
+    /// The line of this connection is decided: its active request is put into the table, or none.
+    fn leave(&mut self, conn: u32) -> Result<(), NoMemory>
+        ensures value { OnOk result (Leaves self.old self.new conn) }
+        ensures kept { self.new.doing ≡ self.old.doing }
+    {
+        match self.progress.left {
+            Left::Request { peer } => {
+                let none = Items::new(self.alloc);
+                let opened = replace(&mut self.progress.opened, none);
+                let _ = self.active.insert(conn, Active { opened, peer })?;
+            }
+            Left::Nothing => {
+                let _ = self.active.remove(&conn);
+            }
+        }
+        Ok(())
     }
 }

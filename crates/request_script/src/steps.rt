@@ -2,18 +2,19 @@ ghost use Rattle.std.specs.Prelude.{◌≡◌, IfOk};
 ghost use Rattle.std.specs.Option.{option_copied};
 ghost use Rattle.request_script.specs.ConnLimits.{conn_reply};
 ghost use Rattle.request_script.specs.Peers.{peer_reply};
-ghost use Rattle.request_script.specs.Progress.{HasFewServers, HasRates, rest, step_turn};
+ghost use Rattle.request_script.specs.Progress.{HasFewServers, HasRates, rest, next_turn};
 ghost use Rattle.request_script.specs.Replies.{HasSmallExcess, HasSmallIndex, IsInRange};
 ghost use Rattle.request_script.specs.ReqLimits.{req_reply};
 ghost use Rattle.request_script.specs.Steps.{active_turn, idle_turn, turn_of};
 
 use crate::active::Active;
 use crate::call::ZoneReply;
-use crate::conns::{close, opened};
+use crate::conns::{close, copy_of as copy_of_conn_limit, opened};
 use crate::decision::Decision;
-use crate::peers::{chosen, ends, fails, tries_next};
-use crate::progress::{Behind, Opening, Progress, Step};
-use crate::reqs::{answered, walk_reqs};
+use crate::peers::{chosen, decided, ends, fails, tries_next};
+use crate::progress::{Asked, Behind, Left, Opening, Progress};
+use crate::reqs::{account_more, checked, copy_of as copy_of_limit, release, walk_reqs};
+use crate::script::Next;
 use crate::vars::copy_of;
 use conn_zone::ConnReply;
 use peer_zone::PeerReply;
@@ -25,70 +26,68 @@ use zone_config::Config;
 use zone_outside::NoMemory;
 
 /// The first step of an event on a connection without an active request.
-#[inline(always)]
-fn idle_step(alloc: Global, config: &Config, now: u64, event: &Event) -> Result<Step, NoMemory>
+fn idle_step(
+    alloc: Global,
+    config: &Config,
+    progress: &mut Progress,
+    now: u64,
+    event: &Event,
+) -> Result<Next, NoMemory>
     requires { HasFewServers config.now }
-    ensures { IfOk result (λ step. step_turn config.now step ≡ idle_turn config.now now event.now) }
+    ensures { IfOk result (λ next. next_turn config.now progress.new next ≡ idle_turn config.now now event.now) }
 {
     match event {
         Event::Start { level, vars } => {
-            let opening = Opening {
+            progress.opening = Opening {
                 location: *level,
                 moment: now,
                 vars: copy_of(alloc, vars)?,
             };
-            walk_reqs(alloc, config, opening, Items::new(alloc), 0)
+            progress.holds = Items::new(alloc);
+            walk_reqs(alloc, config, progress, 0)
         }
-        Event::Fail => Ok(Step::Told {
-            decision: Decision::IdleFail,
-            active: None,
-        }),
-        Event::Done => Ok(Step::Told {
-            decision: Decision::IdleDone,
-            active: None,
-        }),
+        Event::Fail => Ok(decided(progress, Decision::IdleFail, Left::Nothing)),
+        Event::Done => Ok(decided(progress, Decision::IdleDone, Left::Nothing)),
     }
 }
 
 /// The first step of an event on a connection with an active request.
-#[inline(always)]
 fn active_step(
     alloc: Global,
     config: &Config,
+    progress: &mut Progress,
     now: u64,
     active: &Active,
     event: &Event,
-) -> Result<Step, NoMemory>
+) -> Result<Next, NoMemory>
     requires { HasFewServers config.now }
-    ensures { IfOk result (λ step. step_turn config.now step ≡ active_turn config.now now active.now event.now) }
+    ensures { IfOk result (λ next. next_turn config.now progress.new next ≡ active_turn config.now now active.now event.now) }
 {
     match event {
-        Event::Start { .. } => Ok(Step::Told {
-            decision: Decision::Busy,
-            active: Some(Active {
-                opened: Items::from_slice(alloc, active.opened.as_slice())?,
-                peer: active.peer,
-            }),
-        }),
-        Event::Fail => fails(alloc, config, active, now),
-        Event::Done => ends(alloc, config, active, now),
+        Event::Start { .. } => {
+            progress.opened = Items::from_slice(alloc, active.opened.as_slice())?;
+            let left = Left::Request { peer: active.peer };
+            Ok(decided(progress, Decision::Busy, left))
+        }
+        Event::Fail => fails(alloc, config, progress, active, now),
+        Event::Done => ends(alloc, config, progress, active, now),
     }
 }
 
 /// The first step of a line, on a connection with this active request, or none.
-#[inline(always)]
 pub(crate) fn first_step(
     alloc: Global,
     config: &Config,
+    progress: &mut Progress,
     active: Option<&Active>,
     line: &Line,
-) -> Result<Step, NoMemory>
+) -> Result<Next, NoMemory>
     requires { HasFewServers config.now }
-    ensures { IfOk result (λ step. step_turn config.now step ≡ turn_of config.now (option_copied active.entry) line.now) }
+    ensures { IfOk result (λ next. next_turn config.now progress.new next ≡ turn_of config.now (option_copied active.entry) line.now) }
 {
     match active {
-        None => idle_step(alloc, config, line.moment, &line.event),
-        Some(active) => active_step(alloc, config, line.moment, active, &line.event),
+        None => idle_step(alloc, config, progress, line.moment, &line.event),
+        Some(active) => { active_step(alloc, config, progress, line.moment, active, &line.event) }
     }
 }
 
@@ -127,42 +126,47 @@ fn peer_reply(reply: ZoneReply) -> PeerReply
 }
 
 /// The step that follows a reply.
-#[inline(always)]
 pub(crate) fn next_step(
     alloc: Global,
     config: &Config,
-    progress: Progress,
+    progress: &mut Progress,
     reply: ZoneReply,
-) -> Result<Step, NoMemory>
+) -> Result<Next, NoMemory>
     requires rates { HasRates config.now }
     requires servers { HasFewServers config.now }
     requires range { IsInRange reply }
-    ensures { IfOk result (λ step. step_turn config.now step ≡ rest config.now progress reply) }
+    ensures { IfOk result (λ next. next_turn config.now progress.new next ≡ rest config.now progress.old reply) }
 {
-    match progress {
-        Progress::Reqs {
-            opening,
-            holds,
-            asked,
-        } => answered(alloc, config, opening, holds, asked, req_reply(reply)),
-        Progress::Open {
-            opening,
-            said,
-            opened: counted,
-            limit,
-            behind,
-        } => {
-            let reply = conn_reply(reply);
-            opened(alloc, config, opening, said, counted, limit, behind, reply)
+    match &progress.asked {
+        Asked::Check { limit, behind } => {
+            let limit = copy_of_limit(limit);
+            let behind = *behind;
+            checked(alloc, config, progress, limit, behind, req_reply(reply))
         }
-        Progress::Close { opened, behind } => Ok(close(alloc, config, opened, behind)),
-        Progress::Choose { choice } => Ok(chosen(alloc, config, choice, peer_reply(reply))),
-        Progress::Fail { taken, opened, now } => {
-            Ok(tries_next(alloc, config, taken, opened, now))
+        Asked::Release => release(alloc, config, progress),
+        Asked::Account { hold, greatest } => {
+            let hold = *hold;
+            let greatest = *greatest;
+            account_more(alloc, config, progress, hold, greatest, req_reply(reply))
         }
-        Progress::Done { opened } => {
-            let decision = Decision::Ended;
-            Ok(close(alloc, config, opened, Behind::Decided { decision }))
+        Asked::Open { limit, behind } => {
+            let limit = copy_of_conn_limit(limit);
+            let behind = *behind;
+            opened(alloc, config, progress, limit, behind, conn_reply(reply))
         }
+        Asked::Close { behind } => {
+            let behind = *behind;
+            Ok(close(config, progress, behind))
+        }
+        Asked::Choose { choice } => {
+            let choice = *choice;
+            Ok(chosen(config, progress, choice, peer_reply(reply)))
+        }
+        Asked::Fail { taken, now } => {
+            let taken = *taken;
+            let now = *now;
+            Ok(tries_next(config, progress, taken, now))
+        }
+        Asked::Done => Ok(close(config, progress, Behind::Ended)),
     }
 }
