@@ -23,5 +23,5 @@ module _ {A : Type 0} where
   one_before old new k u us lower updates found = λ bytes name is.
       ap (option_and_then (λ (zone : Option ℕ). zone)) (updates.0 bytes)
       ∙ ap (λ b. option_and_then (λ (zone : Option ℕ). zone) (cond b (Some u.zone) (get_by (λ y. slice_cmp nat_cmp bytes.items y.items) old)))
-        (is_eq-slice_cmp k.items bytes.items ∙ ap (λ (w : List ℕ). bytes_eq w bytes.items) lower ∙ ap (bytes_eq (str_to_ascii_lowercase u.name)) is)
+      (is_eq-slice_cmp k.items bytes.items ∙ ap (λ (w : List ℕ). bytes_eq w bytes.items) lower ∙ ap (bytes_eq (str_to_ascii_lowercase u.name)) is)
       ∙ either (is_upstream_called name u) u (get_by (λ y. slice_cmp nat_cmp bytes.items y.items) old) (find (is_upstream_called name) us) (found bytes name is)
