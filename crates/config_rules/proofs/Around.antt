@@ -8,7 +8,7 @@ use Rattle.std.proofs.lemmas.List.Elements.{All-nil, All-cons, All-head, All-tai
 use Rattle.directive_text.specs.declared.tree.Directive.{Directive}
 use Rattle.config_rules.specs.declared.kind.Context.{Context}
 use Rattle.config_rules.specs.Words.{has_block, has_called, inner_of}
-use Rattle.config_rules.specs.Places.{Place, Scope, Sources, context_within, inherited, inside, kind_in, no_sources, places_from, places_of, scope_within, taken, top, walked}
+use Rattle.config_rules.specs.InOrder.{Place, Scope, Sources, context_within, inherited, inside, kind_in, no_sources, places_from, places_of, scope_within, taken, top, walked}
 use Rattle.config_rules.proofs.Walks.{inside_scope, places_more}
 
 -- it holds of these directives of a block, each at its place behind those before it

@@ -1,5 +1,5 @@
 pub mod Walks
-mod Steps
+mod NextItems
 mod Sets
 pub mod Fits
 pub mod Around

@@ -9,7 +9,7 @@ use Rattle.config_rules.specs.declared.kind.Context.{Context}
 use Rattle.config_rules.specs.declared.place.Space.{Space}
 use Rattle.config_rules.specs.declared.walk.Frame.{Frame}
 use Rattle.config_rules.specs.Words.{inner_of, has_block}
-use Rattle.config_rules.specs.Places.{Scope, Sources, Walk, walk_step, walked, inside, places_from, scope_within, context_within, kind_in, inherited}
+use Rattle.config_rules.specs.InOrder.{Scope, Sources, Walk, walk_step, walked, inside, places_from, scope_within, context_within, kind_in, inherited}
 use Rattle.config_rules.specs.Views.{scope_now}
 use Rattle.config_rules.specs.Walking.{frame_left, places_left}
 

@@ -3,7 +3,7 @@ pub mod Numbers
 pub mod Kinds
 pub mod Arguments
 pub mod Names
-pub mod Places
+pub mod InOrder
 pub mod Rules
 pub mod Answers
 pub mod Views

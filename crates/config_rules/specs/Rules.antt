@@ -13,7 +13,7 @@ use Rattle.config_rules.specs.declared.earlier.ZoneNames.{ZoneNames}
 use Rattle.config_rules.specs.Words.{first_of, behind_first, name_of, arguments_of, line_of, has_block, inner_of, is_called, has_called, value_of, parameter_name, is_same_name}
 use Rattle.config_rules.specs.Numbers.{is_number_in, size_of, zone_size, rate_of, time_of}
 use Rattle.config_rules.specs.Arguments.{meanings, declared_name, declared_size, used_name}
-use Rattle.config_rules.specs.Places.{Place, kind_at, places_of}
+use Rattle.config_rules.specs.InOrder.{Place, kind_at, places_of}
 
 -- the arguments of a place's directive
 abbrev pub arguments_at : Place → List Argument

@@ -6,7 +6,7 @@ use Rattle.config_rules.specs.declared.place.Space.{Space}
 use Rattle.config_rules.specs.declared.place.Spot.{Spot}
 use Rattle.config_rules.specs.Words.{Declared}
 use Rattle.config_rules.specs.Numbers.{Scaled}
-use Rattle.config_rules.specs.Places.{Place, Scope, Sources}
+use Rattle.config_rules.specs.InOrder.{Place, Scope, Sources}
 
 -- a declared zone
 abbrev pub declared_now : Declaration → Declared

@@ -2,7 +2,7 @@
 use Rattle.std.specs.Prelude.{◌≡◌, List, [], ◌∷◌, ◌++◌, Option, None, Some, take, drop}
 use Rattle.config_rules.specs.declared.walk.Frame.{Frame}
 use Rattle.config_rules.specs.declared.place.Spot.{Spot}
-use Rattle.config_rules.specs.Places.{Place, places_from}
+use Rattle.config_rules.specs.InOrder.{Place, places_from}
 use Rattle.config_rules.specs.Views.{scope_now, place_now}
 
 -- the places of a block from here on

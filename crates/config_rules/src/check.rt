@@ -1,5 +1,5 @@
 ghost use Rattle.std.specs.Prelude.{◌≡◌, ◌≤◌, ◌++◌, None, IfOk, OnOk, MatchResult};
-ghost use Rattle.config_rules.specs.Places.{kind_at, places_of};
+ghost use Rattle.config_rules.specs.InOrder.{kind_at, places_of};
 ghost use Rattle.config_rules.specs.Rules.{arguments_at, fault_at, fault_of, first_fault, names_if_conn, names_if_req, noted, nothing, zones_named};
 ghost use Rattle.config_rules.specs.Answers.{FaultIs, ReadsFault};
 ghost use Rattle.config_rules.specs.Views.{place_now};

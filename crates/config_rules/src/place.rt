@@ -2,7 +2,7 @@ ghost use Rattle.std.specs.Prelude.{◌≡◌, ◌||◌, IfSome, codes, if◌the
 ghost use Rattle.zone_key.specs.Expr.{is_same};
 ghost use Rattle.config_rules.specs.Words.{has_called};
 ghost use Rattle.std.specs.Option.{option_map};
-ghost use Rattle.config_rules.specs.Places.{context_within, inherited, kind_at, kind_in, scope_within, top};
+ghost use Rattle.config_rules.specs.InOrder.{context_within, inherited, kind_at, kind_in, scope_within, top};
 ghost use Rattle.config_rules.specs.Views.{place_now, scope_now, sources_now};
 
 use crate::kind::{Context, Kind, inner_context, kind_of};

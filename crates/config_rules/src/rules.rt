@@ -6,7 +6,7 @@ ghost use Rattle.config_rules.specs.declared.earlier.Earlier.{Earlier};
 ghost use Rattle.config_rules.specs.declared.earlier.ZoneNames.{ZoneNames};
 ghost use Rattle.config_rules.specs.declared.kind.Kind.{Kind};
 ghost use Rattle.config_rules.specs.Words.{is_called};
-ghost use Rattle.config_rules.specs.Places.{Place};
+ghost use Rattle.config_rules.specs.InOrder.{Place};
 ghost use Rattle.config_rules.specs.Rules.{argument_rules, declares_one_of, first_broken, form_rules, has_bad_rate, has_bad_size, has_repeats, has_size, has_taken_name, is_again, is_backup, is_backup_word, is_bad_key, is_delay, is_formed, is_in_list_of, is_large, is_name, is_once, is_other_method, is_out_of_range, is_parameter, is_primary, is_repeated, is_server_block, is_small, is_switch, is_too_many, is_twice, is_unknown, is_use_of, lacks_primary, limits_again, limits_by, location_name, misplaced, names_no_zone, order_rules, parameters, rules, second_server, uses_one_of};
 ghost use Rattle.config_rules.specs.Views.{place_now};
 

@@ -1,5 +1,5 @@
 ghost use Rattle.std.specs.Prelude.{◌≡◌, IfOk};
-ghost use Rattle.config_rules.specs.Places.{places_of};
+ghost use Rattle.config_rules.specs.InOrder.{places_of};
 ghost use Rattle.config_rules.specs.Walking.{GivesNext, places_left};
 
 use crate::place::{Space, Spot, scope_within, top};
@@ -26,7 +26,7 @@ impl<'a> Model for Walk<'a> {
     ghost use Rattle.std.specs.Prelude.{List};
     ghost use Rattle.std.specs.Coded.{codes};
     ghost use Rattle.directive_text.specs.contracts.tree.Directive as directive;
-    ghost use Rattle.config_rules.specs.Places.{Place};
+    ghost use Rattle.config_rules.specs.InOrder.{Place};
     ghost use Rattle.config_rules.specs.Walking.{places_left};
 
     ghost Value = { List Place };

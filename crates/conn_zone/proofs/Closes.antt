@@ -16,7 +16,7 @@ use Rattle.conn_zone.specs.Object.{parts_of, with_parts}
 use Rattle.conn_zone.specs.Laws.{connections, CloseCountsLaw, nodes_of, Leaves, LastCloseLaw, OtherCloseLaw}
 use Rattle.conn_zone.specs.Proving.Tables.{found_passes, replaced_sum, sum_one, same_key, same_block}
 use Rattle.conn_zone.specs.Proving.Wholes.{left_by, entry_live}
-use Rattle.conn_zone.specs.Proving.Steps.{left_as}
+use Rattle.conn_zone.specs.Proving.CallEffects.{left_as}
 use Rattle.conn_zone.proofs.Weights.{own_weight, own_key, one_less, the_last, taken_out, others_stay, same_nodes}
 
 -- what a close comes to

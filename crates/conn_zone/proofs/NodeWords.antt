@@ -10,7 +10,7 @@ use Rattle.zone_key.specs.Word.{little_endian, key_word}
 use Rattle.zone_region.specs.Words.{Words, word_at, SetsWord}
 use Rattle.zone_region.proofs.WordLemmas.{word_at-set_same, word_at-set_index, length-set_word}
 use Rattle.block_bytes.specs.Bytes.{PutsBytes}
-use Rattle.offset_tree.specs.Keys.{Rank, byte_of, bytes_of, rank_of}
+use Rattle.offset_tree.specs.Keys.{Rank, block_byte, bytes_of, rank_of}
 use Rattle.conn_zone.specs.declared.state.ConnEntry.{ConnEntry}
 use Rattle.conn_zone.specs.Layout.{length_in, count_in, front_in, AreBytes, LaysNode, tree_at}
 use Rattle.conn_zone.specs.Changes.{WritesNode}
@@ -41,7 +41,7 @@ word_byte bs i r bytes few low =
 
 -- ---- the key in a node
 
-node_byte : (m : Words) (e : ConnEntry) (i : ℕ) → LaysNode m e → i < length e.key → byte_of m e.block (36 + i) ≡ get_or e.key i 0
+node_byte : (m : Words) (e : ConnEntry) (i : ℕ) → LaysNode m e → i < length e.key → block_byte m e.block (36 + i) ≡ get_or e.key i 0
 node_byte m e i n low = elim (cases_lt i 4) [
   | inl front ↦
       let word : (36 + i) / 8 ≡ 4 = omega (arith, front) in
@@ -71,12 +71,12 @@ node_byte m e i n low = elim (cases_lt i 4) [
       ∙ ap (λ (k : ℕ). get_or e.key k 0) whole
 ]
 
-bytes_are : (m : Words) (x j : ℕ) (bs : List ℕ) → ((i : ℕ) → i < length bs → byte_of m x (j + i) ≡ get_or bs i 0) → bytes_of m x j (length bs) ≡ bs
+bytes_are : (m : Words) (x j : ℕ) (bs : List ℕ) → ((i : ℕ) → i < length bs → block_byte m x (j + i) ≡ get_or bs i 0) → bytes_of m x j (length bs) ≡ bs
 bytes_are m x j [] are = refl
 bytes_are m x j (b ∷ bs) are =
     let here : j + 0 ≡ j = omega arith in
-    let first : byte_of m x j ≡ b = sym (ap (λ (k : ℕ). byte_of m x k) here) ∙ are 0 (omega arith) in
-    let rest : bytes_of m x (j + 1) (length bs) ≡ bs = bytes_are m x (j + 1) bs (λ i low. let next : j + 1 + i ≡ j + suc i = omega arith in ap (λ (k : ℕ). byte_of m x k) next ∙ are (suc i) (omega (arith, low))) in
+    let first : block_byte m x j ≡ b = sym (ap (λ (k : ℕ). block_byte m x k) here) ∙ are 0 (omega arith) in
+    let rest : bytes_of m x (j + 1) (length bs) ≡ bs = bytes_are m x (j + 1) bs (λ i low. let next : j + 1 + i ≡ j + suc i = omega arith in ap (λ (k : ℕ). block_byte m x k) next ∙ are (suc i) (omega (arith, low))) in
     ap (λ (y : ℕ). y ∷ bytes_of m x (j + 1) (length bs)) first ∙ ap (λ (ys : List ℕ). b ∷ ys) rest
 
 -- a tree reads the entry's hash and key from its node

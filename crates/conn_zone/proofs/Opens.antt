@@ -19,7 +19,7 @@ use Rattle.conn_zone.specs.Holding.{nodes_at, IsWhole}
 use Rattle.conn_zone.specs.Laws.{connections, opened_by, OpenCountsLaw, HasOpened, OpenedLaw, nodes_of, EvictsNothingLaw}
 use Rattle.conn_zone.specs.Proving.Tables.{found_passes, replaced_sum, sum_one, same_key}
 use Rattle.conn_zone.specs.Proving.Wholes.{whole_counted}
-use Rattle.conn_zone.specs.Proving.Steps.{found_as, missing_as}
+use Rattle.conn_zone.specs.Proving.CallEffects.{found_as, missing_as}
 use Rattle.conn_zone.proofs.Weights.{own_weight, own_key, one_more, own_connections, no_connections, same_nodes, replaced_found, found_at_block}
 
 -- ---- the ways in which an open can end

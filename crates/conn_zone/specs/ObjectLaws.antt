@@ -17,7 +17,7 @@ use Rattle.conn_zone.specs.declared.calls.ConnCall.TheVariants.{Open, Close}
 use Rattle.conn_zone.specs.Object.{Made, IsOpened, answer_of, zone_after, IsCount, once_at, given, back, back_by, count_at, Permits, Ready, CanAnswer}
 use Rattle.conn_zone.specs.Holding.{IsEntry, Holds}
 use Rattle.conn_zone.specs.Proving.Fresh.{opened_whole, opened_empty, opened_same}
-use Rattle.conn_zone.specs.Proving.Steps.{moves, answers}
+use Rattle.conn_zone.specs.Proving.CallEffects.{moves, answers}
 
 module _ {X : Type 0} where
   -- an entry that closes was permitted by its caller's own entries

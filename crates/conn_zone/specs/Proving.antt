@@ -1,4 +1,4 @@
 pub mod Tables
 pub mod Wholes
 pub mod Fresh
-pub mod Steps
+pub mod CallEffects

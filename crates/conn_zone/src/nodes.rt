@@ -1,7 +1,6 @@
 ghost use Rattle.std.specs.Prelude.{◌≡◌, ℕ, ◌+◌, ◌*◌, ◌<◌, ◌≤◌, Bool, length, find, Some, None, MatchOption};
 ghost use Rattle.zone_region.specs.Words.{word_at};
-ghost use Rattle.slab_model.specs.Grant.{grant};
-ghost use Rattle.slab_model.specs.Inside.{offset_of};
+ghost use Rattle.slab_model.specs.Grant.{grant, granted_offset};
 ghost use Rattle.slab_pool.specs.Live.{block_words};
 ghost use Rattle.offset_tree.specs.Bounds.{search_cost};
 ghost use Rattle.conn_zone.specs.declared.state.ConnEntry.{ConnEntry};
@@ -56,7 +55,7 @@ pub fn add_node<L: Ledger>(
     requires there { ((s : ConnState) × LaysFrom pool.old context.at s × (entry_of key.now s.table ≡ None)) }
     requires key { IsKey key.now }
     ensures block { (s : ConnState) → LaysFrom pool.old context.at s → entry_of key.now s.table ≡ None →
-        offset_of result ≡ (grant s.slab (node_size + length key.now)).0 }
+        granted_offset result ≡ (grant s.slab (node_size + length key.now)).0 }
     ensures laid { (s : ConnState) → LaysFrom pool.old context.at s → entry_of key.now s.table ≡ None →
         LaysFrom pool.new context.at (with_missing s key.now) }
     ensures cost { (s : ConnState) → LaysFrom pool.old context.at s → entry_of key.now s.table ≡ None →

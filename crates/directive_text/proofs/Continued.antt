@@ -4,7 +4,7 @@ use Rattle.std.specs.Prelude.{◌==◌, if◌then◌else◌}
 use Rattle.directive_text.specs.Internals.Lexemes.{Token, Rest, followed, between, comment, plain, plain_pair, quoted, quoted_pair}
 use Rattle.directive_text.specs.Bytes.{is_blank, is_quote, may_follow, below}
 use Rattle.directive_text.specs.Internals.Tokens.{Fault, kind_at, blocks_after, is_word, first_fault, fault_of}
-use Rattle.directive_text.specs.Internals.Steps.{is_end}
+use Rattle.directive_text.specs.Internals.ScanSteps.{is_end}
 use Rattle.directive_text.proofs.LastLine.{kind-end}
 use Rattle.directive_text.proofs.Printed.{closing-read, closing-fault, semicolon-read}
 

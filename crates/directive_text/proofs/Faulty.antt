@@ -9,7 +9,7 @@ use Rattle.directive_text.specs.Internals.Tokens.{Fault, first_fault, fault_of}
 use Rattle.directive_text.specs.Spelling.{line_feeds, Spells}
 use Rattle.directive_text.specs.Faults.{Reaches, HasFault, begin, too_short, ends_nothing, opens_nothing, closes_words, closes_nothing, follows_quote, opens_too_many}
 use Rattle.directive_text.specs.Faults as faults
-use Rattle.directive_text.proofs.Places.{tells}
+use Rattle.directive_text.proofs.TextPlaces.{tells}
 use Rattle.directive_text.proofs.LastLine.{last-line}
 use Rattle.directive_text.proofs.Staying.{end_kind, faults-stay}
 use Rattle.directive_text.proofs.Printed.{semicolon-read, opening-read, closing-read, opening-fault, closing-fault}

@@ -7,8 +7,8 @@ use Rattle.directive_text.specs.Internals.Lexemes.{Token, Lexeme, word, semicolo
 use Rattle.directive_text.specs.Bytes.{is_blank, is_quote, may_follow, below}
 use Rattle.directive_text.specs.Internals.Tokens.{Fault, kind_at, blocks_after, is_word, first_fault}
 use Rattle.directive_text.specs.Spelling.{line_feeds}
-use Rattle.directive_text.specs.Internals.Steps.{is_end}
-use Rattle.directive_text.proofs.Places.{or_false, quote_ends_no_line}
+use Rattle.directive_text.specs.Internals.ScanSteps.{is_end}
+use Rattle.directive_text.proofs.TextPlaces.{or_false, quote_ends_no_line}
 
 -- what follows a byte stands on the line below it
 pub feeds-below : (line b : ℕ) (bs : List ℕ) → below line b + line_feeds bs ≡ line + line_feeds (b ∷ bs)

@@ -4,7 +4,7 @@ pub mod Fitting
 pub mod LastLine
 pub mod Meaning
 pub mod Parsed
-pub mod Places
+pub mod TextPlaces
 pub mod Printed
 pub mod Spelled
 pub mod Split

@@ -7,7 +7,7 @@ use Rattle.directive_text.specs.Internals.Tokens.{Fault, fault_of, Says}
 use Rattle.directive_text.specs.Spelling.{line_feeds, Spells}
 use Rattle.directive_text.specs.Faults.{HasFault, too_short}
 use Rattle.directive_text.specs.Printing.{printed, Fits}
-use Rattle.directive_text.proofs.Places.{tells}
+use Rattle.directive_text.proofs.TextPlaces.{tells}
 use Rattle.directive_text.proofs.LastLine.{last-line}
 use Rattle.directive_text.proofs.Staying.{faults-stay}
 use Rattle.directive_text.proofs.Unique.{unique}

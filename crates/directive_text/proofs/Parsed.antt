@@ -7,7 +7,7 @@ use Rattle.directive_text.specs.Internals.Lexemes.{Token, end, Rest, word_at, fo
 use Rattle.directive_text.specs.Internals.Lexemes as lexemes
 use Rattle.directive_text.specs.Internals.Tokens.{Fault, first_fault}
 use Rattle.directive_text.specs.Spelling.{line_feeds, WordText, GapText, first, WordsText, no_word, one_word, DirectiveText, simple, block, DirectivesText, no_directive, one_directive, Spells, whole, in_comment}
-use Rattle.directive_text.proofs.Places.{tells}
+use Rattle.directive_text.proofs.TextPlaces.{tells}
 use Rattle.directive_text.proofs.Spelled.{feeds-append, word-read, gap-read, tail_of, ahead_of, head-goes, directives-goes, directive-goes}
 use Rattle.directive_text.proofs.Printed.{semicolon-read, opening-read, closing-read}
 use Rattle.directive_text.proofs.Fitting.{no-fault, opening-kind}

@@ -13,7 +13,7 @@ use Rattle.directive_text.specs.Marks.{Mark, begins, has, ended, opened, closed,
 use Rattle.directive_text.specs.Internals.Tokens.{token_marks}
 use Rattle.directive_text.specs.Printing.{is_plain, is_plain_word, in_quotes, word_text, marks_text, printed, MarksFit, Fits}
 use Rattle.directive_text.specs.Internals.Tokens.{Says}
-use Rattle.directive_text.proofs.Places.{or_false, and_true, not_true, tells, plain-byte, between-plain}
+use Rattle.directive_text.proofs.TextPlaces.{or_false, and_true, not_true, tells, plain-byte, between-plain}
 use Rattle.directive_text.proofs.Trees.{marks-ended, marks-block}
 
 -- what a byte of a plain word isn't

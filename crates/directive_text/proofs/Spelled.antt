@@ -13,7 +13,7 @@ use Rattle.directive_text.specs.Internals.Tokens.{token_marks}
 use Rattle.directive_text.specs.Internals.Tokens.{Says}
 use Rattle.directive_text.specs.Spelling.{line_feeds, Piece, itself, escaped, piece_text, piece_value, stays_quoted, ends_before, begins_plain, WordText, GapText, nothing, blank, first, WordsText, no_word, one_word, DirectiveText, simple, block, DirectivesText, no_directive, one_directive, Spells, whole, in_comment}
 use Rattle.directive_text.specs.Spelling as spelling
-use Rattle.directive_text.proofs.Places.{kept_kept, or_true, or_false, and_true, not_true, same_line, plain-end, plain-byte, plain-backslash, between-plain, between-hash, between-blank, between-quote, quote_ends_no_line}
+use Rattle.directive_text.proofs.TextPlaces.{kept_kept, or_true, or_false, and_true, not_true, same_line, plain-end, plain-byte, plain-backslash, between-plain, between-hash, between-blank, between-quote, quote_ends_no_line}
 use Rattle.directive_text.proofs.LastLine.{feeds-below, feeds-same, feed_ends, other_ends_no_line, backslash_ends_no_line}
 use Rattle.directive_text.proofs.Printed.{semicolon-read, opening-read, closing-read, opening-fault, closing-fault}
 use Rattle.directive_text.proofs.Trees.{marks-ended, marks-block}

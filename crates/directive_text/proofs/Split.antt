@@ -9,7 +9,7 @@ use Rattle.directive_text.specs.Internals.Lexemes.{Token, end, misplaced, word_a
 use Rattle.directive_text.specs.Internals.Tokens.{Fault, first_fault}
 use Rattle.directive_text.specs.Spelling.{line_feeds, Piece, itself, escaped, piece_text, piece_value, stays_quoted, ends_before, begins_plain, WordText, GapText, nothing, blank}
 use Rattle.directive_text.specs.Spelling as spelling
-use Rattle.directive_text.proofs.Places.{tells, plain-byte, plain-backslash, between-plain, between-hash}
+use Rattle.directive_text.proofs.TextPlaces.{tells, plain-byte, plain-backslash, between-plain, between-hash}
 use Rattle.directive_text.proofs.Spelled.{quote-read, quoted-read, last_comment}
 
 -- what stands behind a gap: nothing, a comment that the text's end ends, or a byte that is in no gap

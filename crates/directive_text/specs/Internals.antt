@@ -1,5 +1,5 @@
 -- What the contracts of the crate's inside cite, and no caller reads.
 pub mod Lexemes
 pub mod Tokens
-pub mod Steps
+pub mod ScanSteps
 pub mod Progress

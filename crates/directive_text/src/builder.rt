@@ -3,7 +3,7 @@ ghost use Rattle.directive_text.specs.Marks.{ended, opened, closed, marks_of};
 ghost use Rattle.directive_text.specs.Internals.Tokens.{lexeme_marks};
 ghost use Rattle.directive_text.specs.Internals.Tokens.{kind_at, blocks_after, is_word};
 ghost use Rattle.directive_text.specs.Internals.Progress.{Progress, some_word};
-ghost use Rattle.directive_text.specs.Internals.Steps.{lexeme_of};
+ghost use Rattle.directive_text.specs.Internals.ScanSteps.{lexeme_of};
 ghost use Rattle.directive_text.specs.Internals.Lexemes.{Lexeme, word};
 
 use crate::symbol::{PlacedSymbol, Symbol};

@@ -1,7 +1,7 @@
 ghost use Rattle.std.specs.Prelude.{◌≡◌, ◌⊎◌, ℕ, List, MatchResult};
 ghost use Rattle.directive_text.specs.Spelling.{Spells};
 ghost use Rattle.directive_text.specs.Faults.{HasFault, GivesFault};
-ghost use Rattle.directive_text.specs.Internals.Steps.{is_end, lexeme_of};
+ghost use Rattle.directive_text.specs.Internals.ScanSteps.{is_end, lexeme_of};
 ghost use Rattle.directive_text.specs.declared.tree.Directive.{Directive};
 
 use crate::builder::Builder;

@@ -1,6 +1,6 @@
 ghost use Rattle.std.specs.Prelude.{◌≡◌, ℕ, ◌+◌, ◌≤◌, ◌<◌, ◌^◌, true, false, [], ◌∷◌, length, drop, slice_index, ◌≢◌, MatchOption, OnOk, IfOk, IfSome};
 ghost use Rattle.directive_text.specs.Bytes.{is_blank, is_quote, below, ends_plain};
-ghost use Rattle.directive_text.specs.Internals.Steps.{Passes, ahead, begun, is_last, lexeme_of, token_of};
+ghost use Rattle.directive_text.specs.Internals.ScanSteps.{Passes, ahead, begun, is_last, lexeme_of, token_of};
 ghost use Rattle.directive_text.specs.Internals.Lexemes.{Lexeme, misplaced, kept, ends, followed, between, comment, plain, plain_pair, quoted, quoted_pair, tokens_of};
 
 use crate::bytes::{ends_plain, is_blank, is_quote, keeps_brace, may_follow, push_unescaped};

@@ -6,7 +6,7 @@ use Rattle.zone_region.specs.Members.{In, IsDistinct}
 use Rattle.zone_region.specs.Holding.{HoldsBlocks}
 use Rattle.zone_region.proofs.MembersLemmas.{In-append_left, In-append_right, In-split}
 use Rattle.offset_queue.specs.declared.queue.Queue.{Queue}
-use Rattle.offset_queue.specs.Queue.{offset_of, head_joint, AreLinked, HasLinks, IsQueue, ChangesLinks}
+use Rattle.offset_queue.specs.Queue.{joint_offset, head_joint, AreLinked, HasLinks, IsQueue, ChangesLinks}
 use Rattle.offset_queue.specs.Inside.{IsJoint, joint_from, Joins}
 use Rattle.offset_queue.proofs.Chains.{front_of, back_of, chain_front, chain_back, chain_split, back_in}
 
@@ -40,7 +40,7 @@ pub joint_more : (q : Queue) (link : ℕ) (xs ys : List ℕ) (a : ℕ × ℕ) �
 joint_more q link xs ys a into i = elim i [ inl e ↦ inl e | inr k ↦ inr (into a.0 k.0, k.1) ]
 
 -- an entry's links don't stand where the head's do
-pub entry_offset : (m : Words) (q : Queue) (link : ℕ) (xs : List ℕ) (x : ℕ) → HoldsBlocks m (q.head.at ∷ xs) → HasLinks m q link xs → In x xs → offset_of (x, link) ≢ offset_of (head_joint q)
+pub entry_offset : (m : Words) (q : Queue) (link : ℕ) (xs : List ℕ) (x : ℕ) → HoldsBlocks m (q.head.at ∷ xs) → HasLinks m q link xs → In x xs → joint_offset (x, link) ≢ joint_offset (head_joint q)
 entry_offset m q link xs x h r i e =
     let ne : x ≢ q.head.at = λ f. h.distinct.0 (subst (λ (n : ℕ). In n xs) f i) in
     elim (h.apart x q.head.at (inr i) (inl refl) ne) [
@@ -49,27 +49,27 @@ entry_offset m q link xs x h r i e =
     ]
 
 -- the joint that a link leads to is found by its offset
-pub joint_from_offset : (m : Words) (q : Queue) (link : ℕ) (xs : List ℕ) (a : ℕ × ℕ) → HoldsBlocks m (q.head.at ∷ xs) → HasLinks m q link xs → IsJoint q link xs a → joint_from q link (offset_of a) ≡ a
+pub joint_from_offset : (m : Words) (q : Queue) (link : ℕ) (xs : List ℕ) (a : ℕ × ℕ) → HoldsBlocks m (q.head.at ∷ xs) → HasLinks m q link xs → IsJoint q link xs a → joint_from q link (joint_offset a) ≡ a
 joint_from_offset m q link xs a h r i = elim i [
-  | inl e ↦ subst (λ (p : ℕ × ℕ). joint_from q link (offset_of p) ≡ p) (sym e) (from_head q link)
+  | inl e ↦ subst (λ (p : ℕ × ℕ). joint_from q link (joint_offset p) ≡ p) (sym e) (from_head q link)
   | inr k ↦
       let e : a ≡ (a.0, link) = ap (λ (j : ℕ). let p : ℕ × ℕ = (a.0, j) in p) k.1 in
-      subst (λ (p : ℕ × ℕ). joint_from q link (offset_of p) ≡ p) (sym e) (from_entry q link a.0 (entry_offset m q link xs a.0 h r k.0))
+      subst (λ (p : ℕ × ℕ). joint_from q link (joint_offset p) ≡ p) (sym e) (from_entry q link a.0 (entry_offset m q link xs a.0 h r k.0))
 ] where
-  from_head : (q : Queue) (link : ℕ) → joint_from q link (offset_of (head_joint q)) ≡ head_joint q
+  from_head : (q : Queue) (link : ℕ) → joint_from q link (joint_offset (head_joint q)) ≡ head_joint q
   from_head q link = grind (arith, common_steps)
 
-  from_entry : (q : Queue) (link x : ℕ) → offset_of (x, link) ≢ offset_of (head_joint q) → joint_from q link (offset_of (x, link)) ≡ (x, link)
+  from_entry : (q : Queue) (link x : ℕ) → joint_offset (x, link) ≢ joint_offset (head_joint q) → joint_from q link (joint_offset (x, link)) ≡ (x, link)
   from_entry q link x ne = grind (arith, common_steps)
 
 -- an offset that isn't the head's leaves room for an entry's block before its links
-pub entry_above : (q : Queue) (link : ℕ) (xs : List ℕ) (a : ℕ × ℕ) (o : ℕ) → IsJoint q link xs a → o ≡ offset_of a → o ≢ offset_of (head_joint q) → 8 * link ≤ o
+pub entry_above : (q : Queue) (link : ℕ) (xs : List ℕ) (a : ℕ × ℕ) (o : ℕ) → IsJoint q link xs a → o ≡ joint_offset a → o ≢ joint_offset (head_joint q) → 8 * link ≤ o
 entry_above q link xs a o i e ne = elim i [
-  | inl h ↦ absurd (ne (e ∙ ap (λ (p : ℕ × ℕ). offset_of p) h))
+  | inl h ↦ absurd (ne (e ∙ ap (λ (p : ℕ × ℕ). joint_offset p) h))
   | inr k ↦ omega (arith, e, k.1)
 ]
 
-pub head_below : (m : Words) (q : Queue) (link : ℕ) (xs : List ℕ) → HoldsBlocks m (q.head.at ∷ xs) → HasLinks m q link xs → offset_of (head_joint q) + 16 ≤ 2 ^ 63
+pub head_below : (m : Words) (q : Queue) (link : ℕ) (xs : List ℕ) → HoldsBlocks m (q.head.at ∷ xs) → HasLinks m q link xs → joint_offset (head_joint q) + 16 ≤ 2 ^ 63
 head_below m q link xs h r = omega (arith, r.head, h.below q.head.at (inl refl))
 
 -- the joints beside a joint

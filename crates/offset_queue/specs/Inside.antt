@@ -3,7 +3,7 @@ use Rattle.std.specs.Prelude.{ℕ, ◌≡◌, ◌≢◌, ◌⊎◌, ◌+◌, ◌
 use Rattle.zone_region.specs.Words.{Words, word_at}
 use Rattle.zone_region.specs.Members.{In}
 use Rattle.offset_queue.specs.declared.queue.Queue.{Queue}
-use Rattle.offset_queue.specs.Queue.{offset_of, head_joint, AreLinked}
+use Rattle.offset_queue.specs.Queue.{joint_offset, head_joint, AreLinked}
 
 -- the head's joint, or that of one of the blocks
 abbrev pub IsJoint : Queue → ℕ → List ℕ → ℕ × ℕ → Type 0
@@ -11,7 +11,7 @@ IsJoint q link xs a = (a ≡ head_joint q) ⊎ (In a.0 xs × (a.1 ≡ link))
 
 -- the joint at a byte offset: the head's, or that of the block whose links stand there
 abbrev pub joint_from : Queue → ℕ → ℕ → ℕ × ℕ
-joint_from q link o = if o == offset_of (head_joint q) then head_joint q else (o - 8 * link, link)
+joint_from q link o = if o == joint_offset (head_joint q) then head_joint q else (o - 8 * link, link)
 
 -- the next link at `a` and the previous one at `b` were set to each other
 pub record Joins (old new : Words) (a b : ℕ × ℕ) : Type 0 where

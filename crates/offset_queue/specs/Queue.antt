@@ -6,16 +6,16 @@ use Rattle.zone_region.specs.Holding.{HoldsBlocks}
 use Rattle.offset_queue.specs.declared.queue.Queue.{Queue}
 
 -- A joint is where two link words begin, previous and next: a block, and a word of it. A link holds the byte offset of a joint.
-abbrev pub offset_of : ℕ × ℕ → ℕ
-offset_of a = a.0 + 8 * a.1
+abbrev pub joint_offset : ℕ × ℕ → ℕ
+joint_offset a = a.0 + 8 * a.1
 
 abbrev pub head_joint : Queue → ℕ × ℕ
 head_joint q = (q.head.at, q.at)
 
 -- The next link at `a` leads to `b`, and the previous link at `b` leads back.
 pub record AreLinked (m : Words) (a b : ℕ × ℕ) : Type 0 where
-  pub next : word_at m a.0 (a.1 + 1) ≡ offset_of b
-  pub prev : word_at m b.0 b.1 ≡ offset_of a
+  pub next : word_at m a.0 (a.1 + 1) ≡ joint_offset b
+  pub prev : word_at m b.0 b.1 ≡ joint_offset a
 
 -- From `a` the links go through these blocks in order to `z`, and back the same way. A block's links begin at word `link`.
 abbrev pub IsChain : Words → ℕ → ℕ × ℕ → List ℕ → ℕ × ℕ → Type 0

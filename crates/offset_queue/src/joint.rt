@@ -1,5 +1,5 @@
 ghost use Rattle.std.specs.Prelude.{◌≡◌, ◌≢◌, ℕ, ◌+◌, ◌*◌, ◌^◌, ◌≤◌, List, length};
-ghost use Rattle.offset_queue.specs.Queue.{offset_of, head_joint, AreLinked, IsQueue};
+ghost use Rattle.offset_queue.specs.Queue.{joint_offset, head_joint, AreLinked, IsQueue};
 ghost use Rattle.offset_queue.specs.Inside.{IsJoint, joint_from, Joins};
 
 use crate::queue::Queue;
@@ -26,8 +26,8 @@ pub(crate) fn head_of(q: &Queue) -> Joint
 
 /// The joint at a byte offset: the head's, or that of the block whose links stand there.
 fn joint_at(q: &Queue, link: u64, offset: u64) -> Joint
-    requires head { offset_of (head_joint q.now) ≤ 2 ^ 63 }
-    requires entry { offset ≢ offset_of (head_joint q.now) → 8 * link ≤ offset }
+    requires head { joint_offset (head_joint q.now) ≤ 2 ^ 63 }
+    requires entry { offset ≢ joint_offset (head_joint q.now) → 8 * link ≤ offset }
     ensures { (result.block.at, result.at) ≡ joint_from q.now link offset }
 {
     if offset == q.head.at + 8 * q.at {

@@ -5,7 +5,7 @@ use Rattle.std.specs.Int.{w64, byte_at, bytes_low_first, to_le_bytes}
 use Rattle.zone_region.specs.Words.{Words, word_at, SetsWord}
 use Rattle.zone_region.proofs.WordLemmas.{word_at-set_same, word_at-set_index, length-set_word}
 use Rattle.offset_tree.specs.declared.tree.Form.{Form}
-use Rattle.offset_tree.specs.Keys.{Rank, byte_of, bytes_of, key_len, key_of, rank_of, IsForm}
+use Rattle.offset_tree.specs.Keys.{Rank, block_byte, bytes_of, key_len, key_of, rank_of, IsForm}
 use Rattle.zone_key.specs.Crc.{crc32_of}
 use Rattle.offset_tests.specs.declared.keys.Keys.{Keys}
 use Rattle.offset_tests.specs.Grid.{place_of, key_at, rank_at}
@@ -17,7 +17,7 @@ take-low i (suc n) (suc k) v le = ap (λ bs. byte_at i v ∷ bs) (take-low (suc 
 
 -- the block has the bytes of `v` from byte `start` on
 abbrev pub HasBytes : Words → ℕ → ℕ → ℕ → Type 0
-HasBytes m z start v = (j : ℕ) → j < 8 → byte_of m z (start + j) ≡ byte_at j v
+HasBytes m z start v = (j : ℕ) → j < 8 → block_byte m z (start + j) ≡ byte_at j v
 
 low_bytes : (m : Words) (z start v i n : ℕ) → HasBytes m z start v → i + n ≤ 8 → bytes_of m z (start + i) n ≡ bytes_low_first i n v
 low_bytes m z start v i zero has le = refl

@@ -16,7 +16,7 @@ use Rattle.offset_tree.specs.Inside.Links.{colour_value, Lies, IsShape}
 use Rattle.offset_tree.specs.Inside.Balance.{red_of, IsBalanced, IsPathBalanced, depth_of, Settled}
 use Rattle.offset_tree.specs.Inside.InsertFixup.{Rising}
 use Rattle.offset_tree.specs.Changes.{ChangesNodes}
-use Rattle.offset_tree.specs.Keys.{Rank, rank_cmp, rank_of, byte_of, bytes_of, key_len, key_of, IsForm, HoldsKey, AllAfter, IsOrdered}
+use Rattle.offset_tree.specs.Keys.{Rank, rank_cmp, rank_of, block_byte, bytes_of, key_len, key_of, IsForm, HoldsKey, AllAfter, IsOrdered}
 use Rattle.offset_tree.specs.Inside.Attaching.{Gap}
 use Rattle.offset_tree.specs.Inside.Trees.{IsDrawn}
 use Rattle.offset_tree.specs.Inside.Inserting.{Descending, Opening, IsInsertable}
@@ -158,15 +158,15 @@ ordered_insert m f [] b ys o l h = (all_after m f b ys h, o)
 ordered_insert m f (x ∷ xs) b ys o l h = (after_insert m f x xs b ys o.0 (l x (inl refl)), ordered_insert m f xs b ys o.1 (λ y i. l y (inr i)) h)
 
 -- the words of a hash and key stay
-byte_same : (m n : Words) (x j : ℕ) → 36 ≤ j → word_at n x 4 / 256 ≡ word_at m x 4 / 256 → ((i : ℕ) → 5 ≤ i → word_at n x i ≡ word_at m x i) → byte_of n x j ≡ byte_of m x j
+byte_same : (m n : Words) (x j : ℕ) → 36 ≤ j → word_at n x 4 / 256 ≡ word_at m x 4 / 256 → ((i : ℕ) → 5 ≤ i → word_at n x i ≡ word_at m x i) → block_byte n x j ≡ block_byte m x j
 byte_same m n x j low flags rest = elim (cases_eq j 36) [
-  | inl e ↦ subst (λ (q : ℕ). byte_of n x q ≡ byte_of m x q) (sym e) (at36 (word_at n x 4) (word_at m x 4) flags)
+  | inl e ↦ subst (λ (q : ℕ). block_byte n x q ≡ block_byte m x q) (sym e) (at36 (word_at n x 4) (word_at m x 4) flags)
   | inr n36 ↦ elim (cases_eq j 37) [
-    | inl e ↦ subst (λ (q : ℕ). byte_of n x q ≡ byte_of m x q) (sym e) (at37 (word_at n x 4) (word_at m x 4) flags)
+    | inl e ↦ subst (λ (q : ℕ). block_byte n x q ≡ block_byte m x q) (sym e) (at37 (word_at n x 4) (word_at m x 4) flags)
     | inr n37 ↦ elim (cases_eq j 38) [
-      | inl e ↦ subst (λ (q : ℕ). byte_of n x q ≡ byte_of m x q) (sym e) (at38 (word_at n x 4) (word_at m x 4) flags)
+      | inl e ↦ subst (λ (q : ℕ). block_byte n x q ≡ block_byte m x q) (sym e) (at38 (word_at n x 4) (word_at m x 4) flags)
       | inr n38 ↦ elim (cases_eq j 39) [
-        | inl e ↦ subst (λ (q : ℕ). byte_of n x q ≡ byte_of m x q) (sym e) (at39 (word_at n x 4) (word_at m x 4) flags)
+        | inl e ↦ subst (λ (q : ℕ). block_byte n x q ≡ block_byte m x q) (sym e) (at39 (word_at n x 4) (word_at m x 4) flags)
         | inr n39 ↦ ap (λ (w : ℕ). w / 2 ^ (8 * (j % 8)) % 256) (rest (j / 8) (omega (arith, low, n36, n37, n38, n39)))
       ]
     ]
@@ -194,7 +194,7 @@ byte_same m n x j low flags rest = elim (cases_eq j 36) [
 
 bytes_same : (m n : Words) (x j len : ℕ) → 36 ≤ j → word_at n x 4 / 256 ≡ word_at m x 4 / 256 → ((i : ℕ) → 5 ≤ i → word_at n x i ≡ word_at m x i) → bytes_of n x j len ≡ bytes_of m x j len
 bytes_same m n x j zero low flags rest = refl
-bytes_same m n x j (suc len) low flags rest = ap (λ (b : ℕ). b ∷ bytes_of n x (j + 1) len) (byte_same m n x j low flags rest) ∙ ap (λ bs. byte_of m x j ∷ bs) (bytes_same m n x (j + 1) len (omega (arith, low)) flags rest)
+bytes_same m n x j (suc len) low flags rest = ap (λ (b : ℕ). b ∷ bytes_of n x (j + 1) len) (byte_same m n x j low flags rest) ∙ ap (λ bs. block_byte m x j ∷ bs) (bytes_same m n x (j + 1) len (omega (arith, low)) flags rest)
 
 pub key_len_same : (m n : Words) (f : Form) (x : ℕ) → IsForm f → word_at n x 4 / 256 ≡ word_at m x 4 / 256 → key_len n f x ≡ key_len m f x
 key_len_same m n f x form flags = elim form.len_place [

@@ -5,7 +5,7 @@ use Rattle.zone_region.specs.Words.{Words, word_at}
 use Rattle.offset_tree.specs.declared.tree.Tree.{Tree}
 use Rattle.offset_tree.specs.declared.tree.Form.{Form}
 use Rattle.zone_region.specs.Members.{In}
-use Rattle.offset_tree.specs.Keys.{Rank, byte_of, bytes_of, key_len, key_of, rank_of, HoldsKey}
+use Rattle.offset_tree.specs.Keys.{Rank, block_byte, bytes_of, key_len, key_of, rank_of, HoldsKey}
 use Rattle.offset_tree.specs.Layout.{LaysPart, empty, red, black, IsContext, IsTree, CanInsert}
 use Rattle.zone_region.specs.Granting.{GrantsWords, ReturnsWords}
 use Rattle.zone_region.specs.Holding.{HoldsBlocks}
@@ -92,7 +92,7 @@ same_block m n f z e =
     (record { left = same_word m n z 1 e; right = same_word m n z 2 e; parent = same_word m n z 3 e; colour = ap (λ w. w % 256) (same_word m n z 4 e) }, rank z e) where
       bytes : (j len : ℕ) → bytes_of n z j len ≡ bytes_of m z j len
       bytes j zero = refl
-      bytes j (suc len) = ap (λ (b : ℕ). b ∷ bytes_of n z (j + 1) len) (ap (λ (w : ℕ). w / 2 ^ (8 * (j % 8)) % 256) (same_word m n z (j / 8) e)) ∙ ap (λ bs. byte_of m z j ∷ bs) (bytes (j + 1) len)
+      bytes j (suc len) = ap (λ (b : ℕ). b ∷ bytes_of n z (j + 1) len) (ap (λ (w : ℕ). w / 2 ^ (8 * (j % 8)) % 256) (same_word m n z (j / 8) e)) ∙ ap (λ bs. block_byte m z j ∷ bs) (bytes (j + 1) len)
 
       rank : (y : ℕ) → n z ≡ m z → rank_of n f z ≡ rank_of m f z
       rank y e =
@@ -128,9 +128,9 @@ granted_context m n t count g room above below = record {
 }
 
 -- the bytes of the key stay
-key_bytes : (m n : Words) (z j len : ℕ) → ((k : ℕ) → j ≤ k → byte_of n z k ≡ byte_of m z k) → bytes_of n z j len ≡ bytes_of m z j len
+key_bytes : (m n : Words) (z j len : ℕ) → ((k : ℕ) → j ≤ k → block_byte n z k ≡ block_byte m z k) → bytes_of n z j len ≡ bytes_of m z j len
 key_bytes m n z j zero same = refl
-key_bytes m n z j (suc len) same = ap (λ (b : ℕ). b ∷ bytes_of n z (j + 1) len) (same j (omega arith)) ∙ ap (λ bs. byte_of m z j ∷ bs) (key_bytes m n z (j + 1) len (λ k le. same k (omega (arith, le))))
+key_bytes m n z j (suc len) same = ap (λ (b : ℕ). b ∷ bytes_of n z (j + 1) len) (same j (omega arith)) ∙ ap (λ bs. block_byte m z j ∷ bs) (key_bytes m n z (j + 1) len (λ k le. same k (omega (arith, le))))
 
 -- a request node keeps its key where word 0, word 4 and the words from 10 on stay
 pub rank_of-request : (m n : Words) (f : Form) (z : ℕ) → f.key_at ≡ 80 → word_at n z 0 ≡ word_at m z 0 → word_at n z 4 ≡ word_at m z 4 → ((i : ℕ) → 10 ≤ i → word_at n z i ≡ word_at m z i) → rank_of n f z ≡ rank_of m f z
@@ -188,7 +188,7 @@ rank_of-connection m n f z len_at len_bytes key_at hash short high rest =
     let len : key_len n f z ≡ key_len m f z =
     subst (λ (a : ℕ). word_at n z 4 / 2 ^ (8 * (a % 8)) % 2 ^ (8 * f.len_bytes) ≡ word_at m z 4 / 2 ^ (8 * (a % 8)) % 2 ^ (8 * f.len_bytes)) (sym len_at)
     (subst (λ (b : ℕ). word_at n z 4 / 2 ^ (8 * (33 % 8)) % 2 ^ (8 * b) ≡ word_at m z 4 / 2 ^ (8 * (33 % 8)) % 2 ^ (8 * b)) (sym len_bytes) short) in
-    let byte = λ (k : ℕ) (le : f.key_at ≤ k). elim (cases_eq (k / 8) 4) as (λ _. byte_of n z k ≡ byte_of m z k) [
+    let byte = λ (k : ℕ) (le : f.key_at ≤ k). elim (cases_eq (k / 8) 4) as (λ _. block_byte n z k ≡ block_byte m z k) [
       | inl e ↦ subst (λ (q : ℕ). word_at n z q / 2 ^ (8 * (k % 8)) % 256 ≡ word_at m z q / 2 ^ (8 * (k % 8)) % 256) (sym e)
           (upper (word_at n z 4) (word_at m z 4) (k % 8) high (omega (arith, e, le, key_at)) (omega arith))
       | inr ne ↦ ap (λ (w : ℕ). w / 2 ^ (8 * (k % 8)) % 256) (rest (k / 8) (omega (arith, ne, le, key_at)))

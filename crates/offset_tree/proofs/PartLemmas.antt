@@ -13,7 +13,7 @@ use Rattle.std.specs.declared.cmp.Ordering.TheVariants.{Less, Equal, Greater}
 use Rattle.zone_key.specs.Word.{little_endian}
 use Rattle.zone_key.proofs.WordLemmas.{number_step}
 use Rattle.zone_region.specs.Words.{Words, word_at}
-use Rattle.offset_tree.specs.Keys.{byte_of, bytes_of}
+use Rattle.offset_tree.specs.Keys.{block_byte, bytes_of}
 use Rattle.offset_tree.proofs.KeyLemmas.{cmp_short, cmp_end}
 
 -- the lowest `n` bytes of a number, the lowest first
@@ -121,16 +121,16 @@ higher v n = let e : 8 * suc n ≡ 8 * n + 8 = omega arith in ap (λ (z : ℕ). 
 
 -- the lowest bytes of a shifted word `v` are those of the block from byte `j` on
 abbrev pub Shows : Words → ℕ → ℕ → ℕ → ℕ → Type 0
-Shows m x j n v = (i : ℕ) → i < n → byte_of m x (j + i) ≡ v / 2 ^ (8 * i) % 256
+Shows m x j n v = (i : ℕ) → i < n → block_byte m x (j + i) ≡ v / 2 ^ (8 * i) % 256
 
 shows_behind : (m : Words) (x j n v : ℕ) → Shows m x j (suc n) v → Shows m x (j + 1) n (v / 256)
 shows_behind m x j n v h i low =
     let there : j + 1 + i ≡ j + suc i = omega arith in
     let e : 8 * suc i ≡ 8 + 8 * i = omega arith in
-    ap (λ (z : ℕ). byte_of m x z) there ∙ (h (suc i) (omega (arith, low)) ∙ (ap (λ (z : ℕ). v / 2 ^ z % 256) e ∙ ap (λ (w : ℕ). w % 256) (sym (shr-shr v 8 (8 * i)))))
+    ap (λ (z : ℕ). block_byte m x z) there ∙ (h (suc i) (omega (arith, low)) ∙ (ap (λ (z : ℕ). v / 2 ^ z % 256) e ∙ ap (λ (w : ℕ). w % 256) (sym (shr-shr v 8 (8 * i)))))
 
-shows_first : (m : Words) (x j n v : ℕ) → Shows m x j (suc n) v → byte_of m x j ≡ v % 256
-shows_first m x j n v h = ap (λ (z : ℕ). byte_of m x z) (add_none j) ∙ (h 0 (omega arith) ∙ whole v) where
+shows_first : (m : Words) (x j n v : ℕ) → Shows m x j (suc n) v → block_byte m x j ≡ v % 256
+shows_first m x j n v h = ap (λ (z : ℕ). block_byte m x z) (add_none j) ∙ (h 0 (omega arith) ∙ whole v) where
   add_none : (j : ℕ) → j ≡ j + 0
   add_none j = omega arith
 
@@ -161,7 +161,7 @@ front (suc n) (suc c) (k ∷ ks) m x j (suc r) v some long small deep h =
     let left : r - n ≡ suc r - suc n = omega arith in
     let first : k < 256 = small 0 in
     let word = slice_cmp nat_cmp (low_bytes c (little_endian (take n ks))) (low_bytes c (v / 256 % 2 ^ (8 * n))) in
-    one_more k (byte_of m x j) (little_endian (take n ks)) (v / 256 % 2 ^ (8 * n)) (k + 256 * little_endian (take n ks)) (v % 2 ^ (8 * suc n)) c
+    one_more k (block_byte m x j) (little_endian (take n ks)) (v / 256 % 2 ^ (8 * n)) (k + 256 * little_endian (take n ks)) (v % 2 ^ (8 * suc n)) c
     (slice_cmp nat_cmp ks (bytes_of m x (j + 1) r)) (slice_cmp nat_cmp (drop n ks) (bytes_of m x (j + suc n) (suc r - suc n)))
     (omega (arith, first)) (omega (arith, first)) (bottom v n ∙ sym (shows_first m x j n v h)) (higher v n)
     (ih

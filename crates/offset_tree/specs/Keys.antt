@@ -8,13 +8,13 @@ use Rattle.zone_region.specs.Words.{Words, word_at}
 use Rattle.offset_tree.specs.declared.tree.Form.{Form}
 
 -- byte `j` of the block, the lowest byte of a word first
-abbrev pub byte_of : Words → ℕ → ℕ → ℕ
-byte_of m x j = word_at m x (j / 8) / 2 ^ (8 * (j % 8)) % 256
+abbrev pub block_byte : Words → ℕ → ℕ → ℕ
+block_byte m x j = word_at m x (j / 8) / 2 ^ (8 * (j % 8)) % 256
 
 -- `n` bytes from byte `j` on
 abbrev pub bytes_of : Words → ℕ → ℕ → ℕ → List ℕ
 bytes_of m x j zero = []
-bytes_of m x j (suc n) = byte_of m x j ∷ bytes_of m x (j + 1) n
+bytes_of m x j (suc n) = block_byte m x j ∷ bytes_of m x (j + 1) n
 
 -- the length of the key in a node
 abbrev pub key_len : Words → Form → ℕ → ℕ

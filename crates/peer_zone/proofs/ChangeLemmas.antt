@@ -17,7 +17,7 @@ use Rattle.peer_zone.specs.Records.{peer_at, is_available}
 use Rattle.peer_zone.specs.Choice.{Part, Found, change_at, taken, taken_alone, freed, settled, raised, raised_in, total_in, best_in, by_round, least_in, tied, count_in, among_least, by_least, by_single}
 use Rattle.peer_zone.specs.Numbers.{numbers_of, as_record, found_of, tied_to, part_of, IsLeast, IsNearest}
 use Rattle.peer_zone.specs.Words.{HoldsNumbers, LaysRecords, first_of}
-use Rattle.peer_zone.specs.Steps.{SetsNumbers, ChangesBlocks, IsChain, RaisesAll, HasPeer, IsTakeable, ChangesRecord, Chooses}
+use Rattle.peer_zone.specs.CallSteps.{SetsNumbers, ChangesBlocks, IsChain, RaisesAll, HasPeer, IsTakeable, ChangesRecord, Chooses}
 use Rattle.peer_zone.specs.Proving.Found.{best-found}
 use Rattle.peer_zone.specs.Proving.Kept.{found_there, there-raised, least-there}
 use Rattle.peer_zone.proofs.RecordLemmas.{record-room, record-held, laid-change, peer-below, length-laid, In-index}

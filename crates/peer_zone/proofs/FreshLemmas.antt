@@ -7,7 +7,7 @@ use Rattle.peer_zone.specs.declared.calls.Method.{Method}
 use Rattle.peer_zone.specs.declared.calls.Server.{Server}
 use Rattle.peer_zone.specs.Records.{fresh_record}
 use Rattle.peer_zone.specs.Words.{word_of_bool, HoldsRecord}
-use Rattle.peer_zone.specs.Steps.{WritesWords}
+use Rattle.peer_zone.specs.CallSteps.{WritesWords}
 use Rattle.peer_zone.specs.Layout.{HasZeros, HoldsList, HoldsContext, word_of_method}
 
 pub as_word : (b : Bool) → from_bool b ≡ word_of_bool b

@@ -11,7 +11,7 @@ use Rattle.peer_zone.specs.Records.{peer_at}
 use Rattle.peer_zone.specs.Choice.{change_at}
 use Rattle.peer_zone.specs.Numbers.{numbers_of}
 use Rattle.peer_zone.specs.Words.{HoldsNumbers, HoldsRecord, LaysRecords, first_of}
-use Rattle.peer_zone.specs.Steps.{SetsNumbers}
+use Rattle.peer_zone.specs.CallSteps.{SetsNumbers}
 
 first-index : (ats : List ℕ) → first_of ats ≡ get_or ats 0 0
 first-index [] = refl

@@ -15,7 +15,7 @@ use Rattle.peer_zone.specs.Records.{is_available}
 use Rattle.peer_zone.specs.Choice.{Part, Found, raised, raised_in, total_in, nearer, best_in, replaces, least_in, count_in}
 use Rattle.peer_zone.specs.Numbers.{numbers_of, as_record, tied_to, part_of, IsLeast, IsNearest, IsLight}
 use Rattle.peer_zone.specs.Words.{HoldsNumbers, HoldsFirst, LaysRecords, first_of}
-use Rattle.peer_zone.specs.Steps.{SetsNumbers, IsChain, RaisesAll}
+use Rattle.peer_zone.specs.CallSteps.{SetsNumbers, IsChain, RaisesAll}
 use Rattle.peer_zone.proofs.RecordLemmas.{record-kept, record-set, records-kept}
 
 -- what was read of the first record

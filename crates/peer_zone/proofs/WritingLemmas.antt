@@ -3,7 +3,7 @@ use Rattle.std.proofs.Common.{ℕ, ◌≡◌, ◌≢◌, ◌⊎◌, ◌+◌, ◌
 use Rattle.std.proofs.lemmas.Bool.{cases_eq}
 use Rattle.zone_region.specs.Words.{Words, word_at, SetsWord}
 use Rattle.zone_region.proofs.WordLemmas.{word_at-set_same, word_at-set_index, length-set_word}
-use Rattle.peer_zone.specs.Steps.{WritesWords}
+use Rattle.peer_zone.specs.CallSteps.{WritesWords}
 
 -- the first `n` words are there, and every other word and every other block is as before
 pub record WritesFirst (old new : Words) (at first : ℕ) (words : List ℕ) (n : ℕ) : Type 0 where

@@ -25,7 +25,7 @@ use Rattle.peer_zone.specs.Choice.{Part, Found, Choice, change_at, settled, rais
 use Rattle.peer_zone.specs.Object.{is_single, list_of, with_list, choice_of, conns_at, HasRoom}
 use Rattle.peer_zone.specs.Holding.{named_at, live_at, IsWhole}
 use Rattle.peer_zone.specs.Words.{word_of_bool, first_of, LaysRecords}
-use Rattle.peer_zone.specs.Steps.{ChangesBlocks, IsChain, HasPeer, IsFreeable}
+use Rattle.peer_zone.specs.CallSteps.{ChangesBlocks, IsChain, HasPeer, IsFreeable}
 use Rattle.peer_zone.specs.Layout.{HoldsList, HoldsContext, HasZeros, LaysBackup, LaysPeers}
 use Rattle.peer_zone.specs.Lays.{Lays, head_of, after_head, head_in, records_in, IsHead}
 use Rattle.peer_zone.specs.Proving.Blocks.{named-more}

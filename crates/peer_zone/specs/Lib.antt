@@ -11,7 +11,7 @@ pub mod Proving
 pub mod ObjectLaws
 pub mod Numbers
 pub mod Words
-pub mod Steps
+pub mod CallSteps
 pub mod Layout
 pub mod Lays
 pub mod WordsLaws

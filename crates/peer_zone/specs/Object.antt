@@ -54,12 +54,12 @@ abbrev pub IsMoment : ℕ → Type 0
 IsMoment moment = moment < 2 ^ 42
 
 -- once if the server is this one
-abbrev pub once_at : ℕ → ℕ → ℕ → ℕ → ℕ
-once_at list index to at = if nat_eq to list && nat_eq at index then 1 else 0
+abbrev pub once_for : ℕ → ℕ → ℕ → ℕ → ℕ
+once_for list index to at = if nat_eq to list && nat_eq at index then 1 else 0
 
 -- how often a reply gives the server of this list and index
 abbrev pub given_by : ℕ → ℕ → PeerCall → PeerReply → ℕ
-given_by list index (Choose to tried now) (Peer at) = once_at list index to at
+given_by list index (Choose to tried now) (Peer at) = once_for list index to at
 given_by list index (Choose to tried now) NoPeer = 0
 given_by list index (Choose to tried now) Freed = 0
 given_by list index (Free to at failed now) reply = 0
@@ -67,7 +67,7 @@ given_by list index (Free to at failed now) reply = 0
 -- how often a call gives it back
 abbrev pub back_by : ℕ → ℕ → PeerCall → ℕ
 back_by list index (Choose to tried now) = 0
-back_by list index (Free to at failed now) = once_at list index to at
+back_by list index (Free to at failed now) = once_for list index to at
 
 -- an entry of a history of the zone
 abbrev pub Made : Type 0 → Type 0

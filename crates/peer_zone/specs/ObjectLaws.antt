@@ -15,7 +15,7 @@ use Rattle.zone_object.proofs.Fair.{sum-snoc, held-law}
 use Rattle.zone_object.proofs.Carried.{carried-ready, carried-holds}
 use Rattle.peer_zone.specs.Records.{peer_at, fresh_record, servers_of}
 use Rattle.peer_zone.specs.Choice.{change_at, freed}
-use Rattle.peer_zone.specs.Object.{Made, is_single, list_of, with_list, available, choice_of, reply_for, answer_of, zone_after, once_at, given, back, back_by, Permits, conns_at, HasRoom, IsReadyAt, Ready, CanAnswer}
+use Rattle.peer_zone.specs.Object.{Made, is_single, list_of, with_list, available, choice_of, reply_for, answer_of, zone_after, once_for, given, back, back_by, Permits, conns_at, HasRoom, IsReadyAt, Ready, CanAnswer}
 use Rattle.peer_zone.specs.Opening.{IsSpec, IsOpened, spec_of, opened_zone}
 use Rattle.peer_zone.specs.Holding.{current_sum, IsWithin, Holds}
 use Rattle.peer_zone.specs.Proving.Kept.{IsChoice, choose-is, conns-less, conns-freed, servers-freed, All-freed, All-still}
@@ -45,7 +45,7 @@ module _ {X : Type 0} where
     go : (call : PeerCall) → e.call ≡ call → Permits mine call → (back list index e ≡ 0) ⊎ (sum_by (back list index) mine + back list index e ≤ sum_by (given list index) mine)
     go (Choose to tried now) is h = inl (ap (back_by list index) is)
     go (Free to at failed now) is h =
-        let e_is : back list index e ≡ once_at list index to at = ap (back_by list index) is in
+        let e_is : back list index e ≡ once_for list index to at = ap (back_by list index) is in
         subst (λ n. (n ≡ 0) ⊎ (sum_by (back list index) mine + n ≤ sum_by (given list index) mine)) (sym e_is) (here to at (nat_eq to list) (nat_eq at index) refl refl h.2)
 
   -- ---- the start

@@ -3,7 +3,7 @@ ghost use Rattle.std.specs.Option.{ForSome};
 ghost use Rattle.peer_zone.specs.declared.state.PeerRecord.{PeerRecord};
 ghost use Rattle.peer_zone.specs.Choice.{taken, freed, by_round as chosen_by_round, by_least as chosen_by_least, by_single as chosen_by_single, choose as chosen};
 ghost use Rattle.peer_zone.specs.Numbers.{part_of, IsLight};
-ghost use Rattle.peer_zone.specs.Steps.{IsChain, HasPeer, IsTakeable, IsFreeable, ChangesRecord, Chooses};
+ghost use Rattle.peer_zone.specs.CallSteps.{IsChain, HasPeer, IsTakeable, IsFreeable, ChangesRecord, Chooses};
 
 use crate::calls::Method;
 use crate::records::{numbers_at, record_at, set_numbers};

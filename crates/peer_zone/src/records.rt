@@ -4,7 +4,7 @@ ghost use Rattle.peer_zone.specs.declared.state.PeerRecord.{PeerRecord};
 ghost use Rattle.peer_zone.specs.Words.{HoldsNumbers, LaysRecords, first_of};
 ghost use Rattle.peer_zone.specs.Records.{peer_at};
 ghost use Rattle.peer_zone.specs.Numbers.{numbers_of};
-ghost use Rattle.peer_zone.specs.Steps.{SetsNumbers};
+ghost use Rattle.peer_zone.specs.CallSteps.{SetsNumbers};
 
 use crate::numbers::PeerNumbers;
 use crate::writing::write_words;

@@ -3,7 +3,7 @@ ghost use Rattle.std.specs.Option.{ForSome};
 ghost use Rattle.peer_zone.specs.declared.state.PeerRecord.{PeerRecord};
 ghost use Rattle.peer_zone.specs.Choice.{Found, replaces as replaces_in, nearer as nearer_of, raised, least_in, count_in};
 ghost use Rattle.peer_zone.specs.Numbers.{numbers_of, part_of, as_record, IsLight, IsLeast, IsNearest};
-ghost use Rattle.peer_zone.specs.Steps.{IsChain, RaisesAll};
+ghost use Rattle.peer_zone.specs.CallSteps.{IsChain, RaisesAll};
 
 use crate::numbers::PeerNumbers;
 use crate::records::{next_of, numbers_at, set_numbers};

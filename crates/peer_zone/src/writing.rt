@@ -1,5 +1,5 @@
 ghost use Rattle.std.specs.Prelude.{◌≡◌, ◌+◌, ◌<◌, ◌≤◌, ◌^◌, length};
-ghost use Rattle.peer_zone.specs.Steps.{WritesWords};
+ghost use Rattle.peer_zone.specs.CallSteps.{WritesWords};
 
 use zone_region::{Block, Blocks};
 

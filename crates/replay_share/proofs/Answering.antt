@@ -10,7 +10,7 @@ use Rattle.request_script.specs.declared.call.ZoneReply.{ZoneReply}
 use Rattle.request_script.specs.declared.decision.Decision.{Decision}
 use Rattle.request_script.specs.Turn.{Turn, Exchange, Leads}
 use Rattle.request_script.specs.Turn.Turn.{asks, decides}
-use Rattle.request_script.specs.Steps.{turn_of}
+use Rattle.request_script.specs.RequestSteps.{turn_of}
 use Rattle.request_script.specs.Drive.{Table, with_active, Drives}
 use Rattle.request_script.specs.Drive.Drives.{at_end, line}
 

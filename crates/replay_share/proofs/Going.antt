@@ -16,7 +16,7 @@ use Rattle.request_script.specs.declared.script.Next.{Next}
 use Rattle.request_script.specs.declared.script.Next.TheVariants.{Ask, Told}
 use Rattle.request_script.specs.Turn.{Turn, Exchange, Leads}
 use Rattle.request_script.specs.Turn.Turn.{asks, decides}
-use Rattle.request_script.specs.Steps.{turn_of}
+use Rattle.request_script.specs.RequestSteps.{turn_of}
 use Rattle.request_script.specs.Drive.{Table, nothing_active, Drives, with_active}
 use Rattle.request_script.specs.Drive.Drives.{at_end}
 use Rattle.request_script.specs.Script.{Stage, ScriptState, Comes, MayAnswer, begins, next_of, arrives}

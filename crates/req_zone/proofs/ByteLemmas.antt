@@ -5,7 +5,7 @@ use Rattle.std.proofs.lemmas.List.{get_or-take, get_or-drop, get_or_past, drop_m
 use Rattle.zone_region.specs.Words.{Words, word_at}
 use Rattle.zone_key.specs.Word.{little_endian, key_word}
 use Rattle.block_bytes.specs.Bytes.{HoldsBytes}
-use Rattle.offset_tree.specs.Keys.{byte_of, bytes_of}
+use Rattle.offset_tree.specs.Keys.{block_byte, bytes_of}
 use Rattle.req_zone.specs.Words.{AreBytes}
 
 -- the byte behind the lowest one
@@ -47,7 +47,7 @@ word_byte : (bs : List ℕ) (i k : ℕ) → AreBytes bs → k < 8 → key_word b
 word_byte bs i k low few = number_byte (take 8 (drop (8 * i) bs)) k (part_bytes bs (8 * i) low) few ∙ get_or-take 8 (drop (8 * i) bs) k 0 few ∙ get_or-drop (8 * i) bs k 0
 
 -- byte `j` of a key from word 10 on
-key_byte : (m : Words) (at : ℕ) (key : List ℕ) (j : ℕ) → AreBytes key → HoldsBytes m at 10 key → j < length key → byte_of m at (80 + j) ≡ get_or key j 0
+key_byte : (m : Words) (at : ℕ) (key : List ℕ) (j : ℕ) → AreBytes key → HoldsBytes m at 10 key → j < length key → block_byte m at (80 + j) ≡ get_or key j 0
 key_byte m at key j low held within =
     let word : (80 + j) / 8 ≡ 10 + j / 8 = omega arith in
     let place : (80 + j) % 8 ≡ j % 8 = omega arith in

@@ -16,7 +16,7 @@ use Rattle.req_zone.specs.Step.{node_size, stored, with_count, new_reply}
 use Rattle.req_zone.specs.Object.{answer_of, zone_after, HasRoom, Ready, holds_at}
 use Rattle.req_zone.specs.Laws.{with_table, stale_expired, forced_expired, oldest_left, asked_for, admitted, before_second, IsHeldBy}
 use Rattle.req_zone.specs.Lays.{Lays, IsFound, StandsAt, IsNode, numbers_of, with_numbers}
-use Rattle.req_zone.specs.Proving.Steps.{find_all}
+use Rattle.req_zone.specs.Proving.CallEffects.{find_all}
 use Rattle.req_zone.specs.Proving.Named.{held_entry-law}
 use Rattle.req_zone.proofs.CheckLemmas.{Parts, parts, Place, place, accounted, released, busy, passes, holds}
 use Rattle.req_zone.proofs.ExpiryChain.{none_may, stays, leaves, none_there, none_forced, is_held, is_forced, newer_all, first_left, second_left, no_room, first_room, second_room}

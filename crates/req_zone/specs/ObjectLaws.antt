@@ -18,7 +18,7 @@ use Rattle.req_zone.specs.declared.calls.ReqReply.{ReqReply}
 use Rattle.req_zone.specs.Object.{IsOpened, answer_of, zone_after, HoldsEntry, Permits, Ready, IsReadyAt, HasRoom, given, back, back_by, once_at, holds_at}
 use Rattle.req_zone.specs.Holding.{IsWhole, IsWithin, Holds}
 use Rattle.req_zone.specs.Proving.Fresh.{opened_whole}
-use Rattle.req_zone.specs.Proving.Steps.{call_becomes}
+use Rattle.req_zone.specs.Proving.CallEffects.{call_becomes}
 
 -- the numbers of so few calls leave room
 room_left : (n : ℕ) → n + 1 < 2 ^ 32 → (e : ReqEntry) → IsWithin n e → HasRoom e

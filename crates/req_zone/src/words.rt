@@ -1,7 +1,6 @@
 ghost use Rattle.std.specs.Prelude.{◌≡◌, ◌+◌, ◌*◌, ◌<◌, ◌≤◌, ◌^◌, ◌∷◌, ◌++◌, ℕ, List, [], length, MatchOption, None};
 ghost use Rattle.zone_key.specs.Crc.{crc32_of};
-ghost use Rattle.slab_model.specs.Inside.{offset_of};
-ghost use Rattle.slab_model.specs.Grant.{grant};
+ghost use Rattle.slab_model.specs.Grant.{grant, granted_offset};
 ghost use Rattle.offset_tree.specs.Bounds.{search_cost};
 ghost use Rattle.req_zone.specs.declared.state.ReqEntry.{ReqEntry};
 ghost use Rattle.req_zone.specs.declared.state.ReqState.{ReqState};
@@ -132,7 +131,7 @@ impl ReqWords {
         requires hash { hash ≡ crc32_of key.now }
         requires key { IsKey key.now }
         ensures block { (s : ReqState) → Lays self.old s →
-            offset_of result ≡ (grant s.slab (node_size + length key.now)).0 }
+            granted_offset result ≡ (grant s.slab (node_size + length key.now)).0 }
         ensures laid { (s : ReqState) → Lays self.old s → entry_of key.now s.table ≡ None →
             MatchOption result
             (Lays self.new (asked_for s (node_size + length key.now)))

@@ -98,12 +98,12 @@ choose-takes zone list tried now reply (hold z at) = omega arith
 choose-takes zone list tried now reply (connection z at) = omega arith
 
 pub peer-gives : (zone list tried now at : ℕ) (t : Thing) → once t (server zone list at) ≤ gives t (to.Peer zone (Choose list tried now)) (from.Peer (Peer at))
-peer-gives zone list tried now at (server z own index) = if-weigh (λ (m : Made PeerCall PeerReply). peer.given_by own index m.call m.reply) (record { call = Choose list tried now; reply = Peer at }) (peer.once_at own index list at) (omega arith) (nat_eq zone z)
+peer-gives zone list tried now at (server z own index) = if-weigh (λ (m : Made PeerCall PeerReply). peer.given_by own index m.call m.reply) (record { call = Choose list tried now; reply = Peer at }) (peer.once_for own index list at) (omega arith) (nat_eq zone z)
 peer-gives zone list tried now at (hold z block) = omega arith
 peer-gives zone list tried now at (connection z block) = omega arith
 
 pub free-takes : (zone list index : ℕ) (failed : Bool) (now : ℕ) (reply : ZoneReply) (t : Thing) → takes t (to.Peer zone (Free list index failed now)) reply ≤ once t (server zone list index)
-free-takes zone list index failed now (from.Peer reply) (server z own at) = weigh-if (λ (m : Made PeerCall PeerReply). peer.back_by own at m.call) (record { call = Free list index failed now; reply = reply }) (peer.once_at own at list index) (omega arith) (nat_eq zone z)
+free-takes zone list index failed now (from.Peer reply) (server z own at) = weigh-if (λ (m : Made PeerCall PeerReply). peer.back_by own at m.call) (record { call = Free list index failed now; reply = reply }) (peer.once_for own at list index) (omega arith) (nat_eq zone z)
 free-takes zone list index failed now (from.Req reply) (server z own at) = omega arith
 free-takes zone list index failed now (from.Conn reply) (server z own at) = omega arith
 free-takes zone list index failed now reply (hold z block) = omega arith

@@ -30,7 +30,7 @@ pub data Thing : Type 0 where
 abbrev pub once : Thing → Thing → ℕ
 once (hold z at) (hold zone block) = if nat_eq zone z then req.once_at at block else 0
 once (connection z at) (connection zone block) = if nat_eq zone z then conn.once_at at block else 0
-once (server z list index) (server zone to at) = if nat_eq zone z then peer.once_at list index to at else 0
+once (server z list index) (server zone to at) = if nat_eq zone z then peer.once_for list index to at else 0
 once _ _ = 0
 
 -- how often an exchange gives a thing
@@ -69,7 +69,7 @@ both-self m n = ap (λ (b : Bool). b && nat_eq n n) (eq-self m) ∙ eq-self n
 once-self : (t : Thing) → once t t ≡ 1
 once-self (hold zone at) = ap (λ (b : Bool). if b then req.once_at at at else 0) (eq-self zone) ∙ ap (λ (b : Bool). if b then 1 else 0) (eq-self at)
 once-self (connection zone at) = ap (λ (b : Bool). if b then conn.once_at at at else 0) (eq-self zone) ∙ ap (λ (b : Bool). if b then 1 else 0) (eq-self at)
-once-self (server zone list index) = ap (λ (b : Bool). if b then peer.once_at list index list index else 0) (eq-self zone) ∙ ap (λ (b : Bool). if b then 1 else 0) (both-self list index)
+once-self (server zone list index) = ap (λ (b : Bool). if b then peer.once_for list index list index else 0) (eq-self zone) ∙ ap (λ (b : Bool). if b then 1 else 0) (both-self list index)
 
 has-first : (past : List Exchange) (t : Thing) (things : List Thing) → Has past (t ∷ things) → back t past < given t past
 has-first past t things has = let one = once-self t in let here = has t in omega (arith, one, here)

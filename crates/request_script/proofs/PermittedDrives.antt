@@ -11,7 +11,7 @@ use Rattle.request_script.specs.declared.active.Active.{Active}
 use Rattle.request_script.specs.declared.decision.Decision.{Decision}
 use Rattle.request_script.specs.Turn.{Exchange}
 use Rattle.request_script.specs.Turn.Turn.{asks, decides}
-use Rattle.request_script.specs.Steps.{turn_of}
+use Rattle.request_script.specs.RequestSteps.{turn_of}
 use Rattle.request_script.specs.Drive.{Table, with_active, nothing_active, Drives}
 use Rattle.request_script.specs.Drive.Drives.{at_end, line}
 use Rattle.request_script.specs.Laws.{PermitsLaw}

@@ -20,7 +20,7 @@ use Rattle.request_script.specs.Turn.Turn.{decides}
 use Rattle.request_script.specs.Zones.{level_at, servers_up}
 use Rattle.request_script.specs.ConnLimits.{closes}
 use Rattle.request_script.specs.Peers.{chooses, peer_of, tries_left}
-use Rattle.request_script.specs.Steps.{active_turn, after_conns, after_reqs, fails_whole, idle_turn, is_conn_refusal, is_req_refusal, opens, started, tries_next, turn_of}
+use Rattle.request_script.specs.RequestSteps.{active_turn, after_conns, after_reqs, fails_whole, idle_turn, is_conn_refusal, is_req_refusal, opens, started, tries_next, turn_of}
 use Rattle.request_script.proofs.TurnParts.{level-is, step_at, fails_at, ends_at}
 use Rattle.request_script.proofs.Totals.{weigh, total-reverse}
 use Rattle.request_script.proofs.Priced.{Prices, Within, if-within}

@@ -15,7 +15,7 @@ use Rattle.request_script.specs.Turn.Turn.{decides}
 use Rattle.request_script.specs.Zones.{level_at, servers_up}
 use Rattle.request_script.specs.ConnLimits.{closes}
 use Rattle.request_script.specs.Peers.{chooses, frees, peer_of}
-use Rattle.request_script.specs.Steps.{fails_whole, started, tries_next}
+use Rattle.request_script.specs.RequestSteps.{fails_whole, started, tries_next}
 
 -- ---- the levels of a configuration
 

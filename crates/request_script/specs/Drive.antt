@@ -17,7 +17,7 @@ use Rattle.request_script.specs.declared.call.ZoneReply.TheVariants as from
 use Rattle.request_script.specs.declared.decision.Decision.{Decision}
 use Rattle.request_script.specs.Turn.{Exchange, Leads}
 use Rattle.request_script.specs.Turn.Turn.{decides}
-use Rattle.request_script.specs.Steps.{turn_of}
+use Rattle.request_script.specs.RequestSteps.{turn_of}
 
 -- the active request of each connection, if it has one
 abbrev pub Table : Type 0

@@ -3,7 +3,7 @@ pub mod Zones
 pub mod ReqLimits
 pub mod ConnLimits
 pub mod Peers
-pub mod Steps
+pub mod RequestSteps
 pub mod Drive
 pub mod Progress
 pub mod Script

@@ -33,7 +33,7 @@ use Rattle.request_script.specs.Zones.{level_at, rate_of, has_backups, servers_u
 use Rattle.request_script.specs.ReqLimits.{req_reply, accounted, delay_by, greater, releases, accounts, after_check, req_walk}
 use Rattle.request_script.specs.ConnLimits.{conn_reply, opened_in, closes, conn_refused, after_open, conn_walk}
 use Rattle.request_script.specs.Peers.{peer_of, chooses}
-use Rattle.request_script.specs.Steps.{started, after_conns, after_reqs, tries_next}
+use Rattle.request_script.specs.RequestSteps.{started, after_conns, after_reqs, tries_next}
 
 -- ---- a choice of a server, for an open of which the limits of requests said this
 

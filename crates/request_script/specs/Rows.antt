@@ -29,7 +29,7 @@ use Rattle.request_script.specs.declared.decision.Outcome.TheVariants.{Pass, Lim
 use Rattle.request_script.specs.declared.decision.ReqStatus.TheVariants as status
 use Rattle.request_script.specs.Turn.{Turn, Exchange, Leads}
 use Rattle.request_script.specs.Turn.Turn.{decides}
-use Rattle.request_script.specs.Steps.{turn_of}
+use Rattle.request_script.specs.RequestSteps.{turn_of}
 
 -- ---- what is configured: each zone has the client's address as its key
 

@@ -13,7 +13,7 @@ use Rattle.request_script.specs.declared.script.Next.TheVariants.{Ask, Told}
 use Rattle.request_script.specs.declared.script.Script.{Script}
 use Rattle.request_script.specs.Turn.{Turn}
 use Rattle.request_script.specs.Turn.Turn.{asks, decides}
-use Rattle.request_script.specs.Steps.{turn_of}
+use Rattle.request_script.specs.RequestSteps.{turn_of}
 use Rattle.request_script.specs.Drive.{Table, with_active}
 use Rattle.request_script.specs.Progress.{left_of, rest}
 

@@ -1,6 +1,6 @@
 ghost use Rattle.std.specs.Prelude.{◌≡◌, [], reverse, IfOk};
 ghost use Rattle.request_script.specs.ConnLimits.{after_open, closes, conn_passed, conn_refused, opened_in};
-ghost use Rattle.request_script.specs.Steps.{is_conn_refusal, is_req_refusal};
+ghost use Rattle.request_script.specs.RequestSteps.{is_conn_refusal, is_req_refusal};
 ghost use Rattle.request_script.specs.Progress.{HasFewServers, behind_closes, behind_conns, behind_reqs, conns_from, level_of, next_turn};
 
 use crate::active::Opened;

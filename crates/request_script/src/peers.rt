@@ -1,7 +1,7 @@
 ghost use Rattle.std.specs.Prelude.{◌≡◌, ◌<◌, ◌^◌, bit_or, None, Some, IfOk};
 ghost use Rattle.request_script.specs.Peers.{peer_of, seconds, taken_at, tries_left};
 ghost use Rattle.request_script.specs.Replies.{HasSmallIndex};
-ghost use Rattle.request_script.specs.Steps.{ends, fails, peer_step, started, tries_next};
+ghost use Rattle.request_script.specs.RequestSteps.{ends, fails, peer_step, started, tries_next};
 ghost use Rattle.request_script.specs.Progress.{HasFewServers, behind_call, choice_turn, found, left_of, level_of, next_turn, with_peer, without_peer, without_server};
 ghost use Rattle.zone_config.specs.declared.data.Config.{Config};
 ghost use Rattle.request_script.specs.Turn.Turn.{decides};

@@ -5,7 +5,7 @@ ghost use Rattle.request_script.specs.Peers.{peer_reply};
 ghost use Rattle.request_script.specs.Progress.{HasFewServers, HasRates, rest, next_turn};
 ghost use Rattle.request_script.specs.Replies.{HasSmallExcess, HasSmallIndex, IsInRange};
 ghost use Rattle.request_script.specs.ReqLimits.{req_reply};
-ghost use Rattle.request_script.specs.Steps.{active_turn, idle_turn, turn_of};
+ghost use Rattle.request_script.specs.RequestSteps.{active_turn, idle_turn, turn_of};
 
 use crate::active::Active;
 use crate::call::ZoneReply;

@@ -1,4 +1,4 @@
 pub mod Lists
 pub mod Rooms
-pub mod Steps
+pub mod RuleKept
 pub mod Calls

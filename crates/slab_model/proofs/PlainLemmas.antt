@@ -4,18 +4,18 @@ use Rattle.std.specs.Prelude.{IfOk, OnOk, OnErr}
 use Rattle.zone_outside.specs.declared.errors.NoMemory.{NoMemory}
 use Rattle.zone_region.specs.declared.blocks.Block.{Block}
 use Rattle.slab_model.specs.declared.parts.Parts.{Parts}
-use Rattle.slab_model.specs.Inside.{slab_of, offset_of}
+use Rattle.slab_model.specs.Inside.{slab_of}
 use Rattle.slab_model.specs.State.{Slab}
 use Rattle.slab_model.specs.Blocks.{IsLive}
 use Rattle.slab_model.specs.Counting.{free_pages}
-use Rattle.slab_model.specs.Grant.{grant}
+use Rattle.slab_model.specs.Grant.{grant, granted_offset}
 use Rattle.slab_model.specs.Return.{give_back}
 use Rattle.slab_model.specs.Soundness.{IsSound}
 use Rattle.slab_model.proofs.ClassLemmas.{zone}
 use Rattle.slab_model.proofs.Laws.{grant-sound, give_back-sound}
 use Rattle.slab_model.proofs.CountLaws.{pages-law}
 
-pub sound_after_grant : (result : Result (Option Block) NoMemory) (old new : Parts) (size : ℕ) → IsSound (slab_of old) → 0 < size → IfOk result (λ b. (offset_of b, slab_of new) ≡ grant (slab_of old) size) → OnErr result (new ≡ old) → IsSound (slab_of new)
+pub sound_after_grant : (result : Result (Option Block) NoMemory) (old new : Parts) (size : ℕ) → IsSound (slab_of old) → 0 < size → IfOk result (λ b. (granted_offset b, slab_of new) ≡ grant (slab_of old) size) → OnErr result (new ≡ old) → IsSound (slab_of new)
 sound_after_grant (Ok b) old new size s some ok err = subst (λ (t : Slab). IsSound t) (sym (ap (λ (p : Option ℕ × Slab). p.1) ok)) (grant-sound (slab_of old) size s some)
 sound_after_grant (Err e) old new size s some ok err = subst (λ (p : Parts). IsSound (slab_of p)) (sym err) s
 

@@ -1,5 +1,6 @@
 -- What a request for a block is given, and the slab afterwards.
 use Rattle.std.specs.Prelude.{ℕ, ◌+◌, ◌-◌, ◌*◌, Bool, true, false, not, ◌||◌, List, [], ◌∷◌, slice_set, Option, Some, None, is_some, if◌then◌else◌}
+use Rattle.zone_region.specs.declared.blocks.Block.{Block}
 use Rattle.slab_model.specs.declared.page.PageState.{PageState}
 use Rattle.slab_model.specs.declared.page.PageState.TheVariants.{First, Later, Class}
 use Rattle.slab_model.specs.Geometry.{page_size, page_offset, class_size, class_of, pages_for, first_index, usable_blocks, block_offset}
@@ -8,6 +9,11 @@ use Rattle.slab_model.specs.Runs.{first_fit, take_run}
 use Rattle.slab_model.specs.State.{Slab, page_at, list_of, stat_of, fill_pages}
 use Rattle.slab_model.specs.Blocks.{lowest_unused, is_full, used_in}
 use Rattle.slab_model.specs.Counting.{count_grant, count_fail}
+
+-- the offset of the block that was granted, if any
+abbrev pub granted_offset : Option Block → Option ℕ
+granted_offset None = None
+granted_offset (Some block) = Some block.at
 
 -- the used indexes of a page of the class once its lowest unused one is granted
 abbrev pub with_lowest : Slab → ℕ → List ℕ → List ℕ

@@ -1,6 +1,5 @@
 -- What the plain program keeps, as a slab; its callers see the slab alone.
-use Rattle.std.specs.Prelude.{ℕ, ◌+◌, ◌^◌, ◌<◌, nat_lt, List, [], ◌∷◌, Option, Some, None, if◌then◌else◌}
-use Rattle.zone_region.specs.declared.blocks.Block.{Block}
+use Rattle.std.specs.Prelude.{ℕ, ◌+◌, ◌^◌, ◌<◌, nat_lt, List, [], ◌∷◌, if◌then◌else◌}
 use Rattle.slab_model.specs.declared.parts.Parts.{Parts}
 use Rattle.slab_model.specs.declared.shape.Shape.{Shape}
 use Rattle.slab_model.specs.declared.page.PageState.{PageState}
@@ -11,11 +10,6 @@ use Rattle.slab_model.specs.State.{Slab}
 -- the slab that the lists are
 abbrev pub slab_of : Parts → Slab
 slab_of parts = record { shape = parts.shape; pages = parts.pages.items; runs = parts.runs.items; lists = parts.lists.items; stats = parts.stats.items }
-
--- the offset of a block
-abbrev pub offset_of : Option Block → Option ℕ
-offset_of None = None
-offset_of (Some block) = Some block.at
 
 -- the page is one of a class
 abbrev pub IsOfClass : PageState → Type 0

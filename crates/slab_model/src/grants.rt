@@ -1,10 +1,10 @@
 ghost use Rattle.std.specs.Prelude.{◌≡◌, ℕ, ◌<◌, ◌≤◌, [], ◌∷◌, drop, IfOk, OnErr, OnOk};
 ghost use Rattle.slab_model.specs.Geometry.{class_count, class_size as size_of_class, greatest_zone, page_offset as page_at_offset, block_offset as block_at_offset};
-ghost use Rattle.slab_model.specs.Inside.{slab_of, offset_of};
+ghost use Rattle.slab_model.specs.Inside.{slab_of};
 ghost use Rattle.slab_model.specs.Runs.{first_fit as fit_of};
 ghost use Rattle.slab_model.specs.State.{Slab, list_of, page_at};
 ghost use Rattle.slab_model.specs.Blocks.{used_in};
-ghost use Rattle.slab_model.specs.Grant.{grant_in_page as granted_in_page, grant_in_new_page as granted_in_new_page, grant_from_list, grant_run as granted_run, grant as granted};
+ghost use Rattle.slab_model.specs.Grant.{grant_in_page as granted_in_page, grant_in_new_page as granted_in_new_page, grant_from_list, grant_run as granted_run, grant as granted, granted_offset};
 ghost use Rattle.slab_model.specs.Soundness.{IsSound};
 
 use crate::counts::{count_fail, count_grant};
@@ -38,7 +38,7 @@ fn grant_in_page(parts: &mut Parts, alloc: Global, class: u32, page: u64) -> Res
     requires sound { IsSound (slab_of parts.old) }
     requires class { class < class_count parts.old.shape }
     requires listed { list_of (slab_of parts.old) class ≡ page ∷ drop 1 (list_of (slab_of parts.old) class) }
-    ensures ok { IfOk result (λ b. (offset_of (Some b), slab_of parts.new) ≡ granted_in_page (slab_of parts.old) class page (drop 1 (list_of (slab_of parts.old) class)) (used_in (page_at (slab_of parts.old).pages page))) }
+    ensures ok { IfOk result (λ b. (granted_offset (Some b), slab_of parts.new) ≡ granted_in_page (slab_of parts.old) class page (drop 1 (list_of (slab_of parts.old) class)) (used_in (page_at (slab_of parts.old).pages page))) }
     ensures err { OnErr result (parts.new ≡ parts.old) }
 {
     let used = indexes(&parts.pages[page as usize]);
@@ -63,7 +63,7 @@ fn grant_in_new_page(
 ) -> Result<Option<Block>, NoMemory>
     requires sound { IsSound (slab_of parts.old) }
     requires class { class < class_count parts.old.shape }
-    ensures ok { IfOk result (λ b. (offset_of b, slab_of parts.new) ≡ granted_in_new_page (slab_of parts.old) class (fit_of 1 parts.old.runs.items)) }
+    ensures ok { IfOk result (λ b. (granted_offset b, slab_of parts.new) ≡ granted_in_new_page (slab_of parts.old) class (fit_of 1 parts.old.runs.items)) }
     ensures err { OnErr result (parts.new ≡ parts.old) }
 {
     let stat = parts.stats[class as usize];
@@ -87,7 +87,7 @@ fn grant_in_new_page(
 fn grant_run(parts: &mut Parts, alloc: Global, count: u64) -> Result<Option<Block>, NoMemory>
     requires sound { IsSound (slab_of parts.old) }
     requires count { 0 < count }
-    ensures ok { IfOk result (λ b. (offset_of b, slab_of parts.new) ≡ granted_run (slab_of parts.old) count (fit_of count parts.old.runs.items)) }
+    ensures ok { IfOk result (λ b. (granted_offset b, slab_of parts.new) ≡ granted_run (slab_of parts.old) count (fit_of count parts.old.runs.items)) }
     ensures err { OnErr result (parts.new ≡ parts.old) }
 {
     let Some(page) = first_fit(&parts.runs, count) else {
@@ -105,7 +105,7 @@ fn grant_run(parts: &mut Parts, alloc: Global, count: u64) -> Result<Option<Bloc
 fn grant_class(parts: &mut Parts, alloc: Global, class: u32) -> Result<Option<Block>, NoMemory>
     requires sound { IsSound (slab_of parts.old) }
     requires class { class < class_count parts.old.shape }
-    ensures ok { IfOk result (λ b. (offset_of b, slab_of parts.new) ≡ grant_from_list (slab_of parts.old) class (list_of (slab_of parts.old) class)) }
+    ensures ok { IfOk result (λ b. (granted_offset b, slab_of parts.new) ≡ grant_from_list (slab_of parts.old) class (list_of (slab_of parts.old) class)) }
     ensures err { OnErr result (parts.new ≡ parts.old) }
 {
     match parts.lists[class as usize].first() {
@@ -120,7 +120,7 @@ pub fn grant(parts: &mut Parts, alloc: Global, size: u64) -> Result<Option<Block
     requires sound { IsSound (slab_of parts.old) }
     requires some { 0 < size }
     requires small { size ≤ greatest_zone }
-    ensures ok { IfOk result (λ b. (offset_of b, slab_of parts.new) ≡ granted (slab_of parts.old) size) }
+    ensures ok { IfOk result (λ b. (granted_offset b, slab_of parts.new) ≡ granted (slab_of parts.old) size) }
     ensures err { OnErr result (parts.new ≡ parts.old) }
 {
     match class_of(parts.shape, size) {

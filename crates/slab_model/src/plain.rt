@@ -1,10 +1,10 @@
 ghost use Rattle.std.specs.Prelude.{◌≡◌, ◌<◌, ◌≤◌, [], replicate, IfOk, OnOk, OnErr};
 ghost use Rattle.slab_model.specs.Geometry.{IsInLimits, shape_of, least_zone, greatest_zone, class_count as class_count_of};
-ghost use Rattle.slab_model.specs.Inside.{offset_of, slab_of};
+ghost use Rattle.slab_model.specs.Inside.{slab_of};
 ghost use Rattle.slab_model.specs.State.{Slab, classes_in, no_stat, fresh_slab, stat_of};
 ghost use Rattle.slab_model.specs.Blocks.{IsLive, live_bytes as live_bytes_of};
 ghost use Rattle.slab_model.specs.Counting.{free_pages as free_pages_of};
-ghost use Rattle.slab_model.specs.Grant.{grant as granted};
+ghost use Rattle.slab_model.specs.Grant.{grant as granted, granted_offset};
 ghost use Rattle.slab_model.specs.Return.{give_back as given_back};
 ghost use Rattle.slab_model.specs.Soundness.{IsSound};
 
@@ -117,7 +117,7 @@ impl PlainSlab {
     pub fn grant(&mut self, alloc: Global, size: u64) -> Result<Option<Block>, NoMemory>
         requires some { 0 < size }
         requires small { size ≤ greatest_zone }
-        ensures block { IfOk result (λ b. offset_of b ≡ (granted self.old size).0) }
+        ensures block { IfOk result (λ b. granted_offset b ≡ (granted self.old size).0) }
         ensures slab { OnOk result (self.new ≡ (granted self.old size).1) }
         ensures err { OnErr result (self.new ≡ self.old) }
         ensures sound { IsSound self.new }

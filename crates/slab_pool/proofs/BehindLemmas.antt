@@ -16,7 +16,7 @@ use Rattle.slab_pages.proofs.FrameLemmas.{pages-behind}
 use Rattle.slab_pages.proofs.SetLemmas.{list_word-past, run_word-before, run_word-past}
 use Rattle.slab_pool.specs.Pool.{LaysPool}
 use Rattle.slab_pool.specs.Live.{is_bitmap_word, KeepsPages}
-use Rattle.slab_pool.specs.Steps.{IsOutside, ChangesBits, ChangesLinks, KeepsBehind}
+use Rattle.slab_pool.specs.PoolSteps.{IsOutside, ChangesBits, RelinksPages, KeepsBehind}
 use Rattle.slab_pool.proofs.RestLemmas.{bitmap-belongs, few_words}
 
 pub behind-bits : (shape : Shape) (class page : ℕ) (old new : List ℕ) → IsInLimits shape → page < pages_of shape → ChangesBits shape class page old new → KeepsBehind shape class page old new
@@ -29,7 +29,7 @@ behind-bits shape class page old new limits below c =
       data_is = c.others data_word (λ e. omega (arith, e)) (λ _. inl (omega (arith, behind)));
     }
 
-pub behind-links : (shape : Shape) (class page : ℕ) (listed : List ℕ) (old new : List ℕ) → class < 9 → ((q : ℕ) → (q ≡ page) ⊎ In q listed → q < pages_of shape) → ChangesLinks class page listed old new → KeepsBehind shape class page old new
+pub behind-links : (shape : Shape) (class page : ℕ) (listed : List ℕ) (old new : List ℕ) → class < 9 → ((q : ℕ) → (q ≡ page) ⊎ In q listed → q < pages_of shape) → RelinksPages class page listed old new → KeepsBehind shape class page old new
 behind-links shape class page listed old new known below c = record {
   same_length = c.same_length;
   behind = λ w past out. c.others w (λ e. omega (arith, e, past, known)) (λ q m. let z = below q m in (λ e. omega (arith, e, past, z), λ e. omega (arith, e, past, z)));

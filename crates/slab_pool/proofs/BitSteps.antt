@@ -19,7 +19,7 @@ use Rattle.slab_pages.proofs.SetLemmas.{may_set-past, may_set-used}
 use Rattle.slab_pages.proofs.WriteLemmas.{get-written, get-read, length-written}
 use Rattle.slab_pool.specs.WordBits.{IsLowestClear}
 use Rattle.slab_pool.specs.Bits.{bits_word, bits_limit, HasShift, IsBitsWord, HasBits}
-use Rattle.slab_pool.specs.Steps.{IsTaken, ChangesBits, SetsBits, IsFirstUnused}
+use Rattle.slab_pool.specs.PoolSteps.{IsTaken, ChangesBits, SetsBits, IsFirstUnused}
 use Rattle.slab_pool.proofs.KindLemmas.{kind-small, kind-exact, kind-big, numbers, one_word}
 use Rattle.slab_pool.proofs.BitLemmas.{KindAt, at_small, at_exact, at_big, kind_at, small_word, bits_word-is, bits_word-all, IsBitsWord-kept, IsBitsWord-mark, IsBitsWord-clear}
 use Rattle.slab_pool.proofs.ListLemmas.{taken-room}

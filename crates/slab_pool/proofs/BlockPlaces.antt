@@ -4,7 +4,7 @@ use Rattle.slab_model.specs.Geometry.{class_size, blocks_in_page, page_offset}
 use Rattle.slab_model.proofs.ClassLemmas.{zone, cuts}
 use Rattle.slab_model.proofs.BlockLemmas.{block_end}
 use Rattle.slab_pages.specs.Places.{Image}
-use Rattle.slab_pool.specs.Steps.{IsTaken}
+use Rattle.slab_pool.specs.PoolSteps.{IsTaken}
 
 pub block-fits : (image : Image) (page class index o s : ℕ) → IsTaken image page → class < 9 → index < blocks_in_page image.shape class → o ≡ page_offset image.shape page → s ≡ class_size class → (s * index < 2 ^ 64) × (o + s * index < 2 ^ 64)
 block-fits image page class index o s t known low o_is s_is =

@@ -28,7 +28,7 @@ use Rattle.slab_pages.proofs.TakeLemmas.{uncovered}
 use Rattle.slab_pool.specs.Bits.{HasBits}
 use Rattle.slab_pool.specs.Links.{Linked}
 use Rattle.slab_pool.specs.Pool.{LaysPool}
-use Rattle.slab_pool.specs.Steps.{HasRuns, IsTaken, HasList, KeepsRuns, ChangesBits, ChangesLinks, Unlinks, IsFirstUnused, LeavesIfFull, stays, leaves, Answers, KeepsBehind}
+use Rattle.slab_pool.specs.PoolSteps.{HasRuns, IsTaken, HasList, KeepsRuns, ChangesBits, RelinksPages, UnlinksPage, IsFirstUnused, LeavesIfFull, stays, leaves, Answers, KeepsBehind}
 use Rattle.slab_pool.specs.Live.{KeepsPages}
 use Rattle.slab_pool.proofs.KindLemmas.{numbers}
 use Rattle.slab_pool.proofs.RunLemmas.{pool-runs}
@@ -188,7 +188,7 @@ laid-in_page slab class page r rest used old a b new s l known listed is room h 
           let full_now = now-full slab.shape class r used known h.first all in
           let once : IsDistinct (page ∷ rest) = subst (λ (ps : List ℕ). IsDistinct ps) listed (s.lists class known).once in
           let linked = subst (λ (ps : List ℕ). Linked a (class_head class) (type_of (kind_of slab.shape class)) (class_head class) ps) (without-head page rest once) u.linked in
-          let changes = subst (λ (ps : List ℕ). ChangesLinks class page ps old a) (sym listed) u.changes in
+          let changes = subst (λ (ps : List ℕ). RelinksPages class page ps old a) (sym listed) u.changes in
           let l_a = LaysSlab-links slab class page used rest old a pl known in_lists is l (h.leave_runs slab.runs l.runs) changes (λ full. absurd (differ full room)) linked in
           let pl_a = placed-list slab class rest pl in_lists (λ q m. pl.listed class q known (subst (λ (ps : List ℕ). In q ps) (sym listed) (inr m))) in
           let stay = links-stay slab.shape class page a b s.limits below h.marks in
@@ -208,7 +208,7 @@ laid-in_page slab class page r rest used old a b new s l known listed is room h 
 pub list-below : (image : Image) (class page : ℕ) (listed : List ℕ) → HasList image class listed → IsTaken image page → (q : ℕ) → (q ≡ page) ⊎ In q listed → q < pages_of image.shape
 list-below image class page listed l t q m = elim m [ inl e ↦ omega (arith, e, t.below) | inr i ↦ (l.taken q i).below ]
 
-pub links-bits : (shape : Shape) (class page : ℕ) (listed used : List ℕ) (old new : List ℕ) → IsInLimits shape → ((q : ℕ) → (q ≡ page) ⊎ In q listed → q < pages_of shape) → ChangesLinks class page listed old new → HasBits old shape page class used → HasBits new shape page class used
+pub links-bits : (shape : Shape) (class page : ℕ) (listed used : List ℕ) (old new : List ℕ) → IsInLimits shape → ((q : ℕ) → (q ≡ page) ⊎ In q listed → q < pages_of shape) → RelinksPages class page listed old new → HasBits old shape page class used → HasBits new shape page class used
 links-bits shape class page listed used old new limits below c h =
     let known : class < 9 = h.known in
     let at = descriptor-word page in
@@ -221,7 +221,7 @@ links-bits shape class page listed used old new limits below c h =
       usable = h.usable;
     }
 
-pub links-stat : (class page c : ℕ) (listed : List ℕ) (stat : Stat) (old new : List ℕ) → class < 9 → c < 9 → ChangesLinks class page listed old new → LaysStat old c stat → LaysStat new c stat
+pub links-stat : (class page c : ℕ) (listed : List ℕ) (stat : Stat) (old new : List ℕ) → class < 9 → c < 9 → RelinksPages class page listed old new → LaysStat old c stat → LaysStat new c stat
 links-stat class page c listed stat old new known ok h l = LaysStat-kept old new c stat (λ w a b. h.others w (λ e. omega (arith, e, a, known)) (λ q m. (λ e. omega (arith, e, b, ok), λ e. omega (arith, e, b, ok)))) l
 
 pub bits-stat : (shape : Shape) (class page c : ℕ) (stat : Stat) (old new : List ℕ) → IsInLimits shape → c < 9 → ChangesBits shape class page old new → LaysStat old c stat → LaysStat new c stat
@@ -347,7 +347,7 @@ kept-page old a b new slab class page r p known f s =
 
 -- ---- whether the page leaves the list
 
-pub left-full : (shape : Shape) (class page index r n : ℕ) (used listed : List ℕ) (old new : List ℕ) → IsFirstUnused shape class (index + 1) used r → n ≡ blocks_in_page shape class → r ≡ n → Unlinks shape class page listed old new → LeavesIfFull shape class page index used listed old new
+pub left-full : (shape : Shape) (class page index r n : ℕ) (used listed : List ℕ) (old new : List ℕ) → IsFirstUnused shape class (index + 1) used r → n ≡ blocks_in_page shape class → r ≡ n → UnlinksPage shape class page listed old new → LeavesIfFull shape class page index used listed old new
 left-full shape class page index r n used listed old new f n_is same u = leaves (λ k more less. f.between k (omega (arith, more)) (omega (arith, less, same, n_is))) u
 
 pub left-open : (shape : Shape) (class page index r n : ℕ) (used listed : List ℕ) (old : List ℕ) → IsFirstUnused shape class (index + 1) used r → n ≡ blocks_in_page shape class → r ≢ n → LeavesIfFull shape class page index used listed old old

@@ -31,7 +31,7 @@ use Rattle.slab_pool.specs.Bits.{HasBits}
 use Rattle.slab_pool.specs.Links.{Linked}
 use Rattle.slab_pool.specs.Pool.{LaysPool}
 use Rattle.slab_pool.specs.Live.{KeepsPages}
-use Rattle.slab_pool.specs.Steps.{HasRuns, IsTaken, HasList, KeepsRuns, ChangesBits, ChangesLinks, Unlinks, Pushes, KeepsBehind, IsCleared}
+use Rattle.slab_pool.specs.PoolSteps.{HasRuns, IsTaken, HasList, KeepsRuns, ChangesBits, RelinksPages, UnlinksPage, Pushes, KeepsBehind, HasBitCleared}
 use Rattle.slab_pool.proofs.KindLemmas.{numbers}
 use Rattle.slab_pool.proofs.DecodeLemmas.{listed_type, typed-some}
 use Rattle.slab_pool.proofs.RunLemmas.{pool-runs}
@@ -46,21 +46,21 @@ differ x y = cc
 
 -- ---- the page once the bit is cleared
 
-pub cleared-known : (before : Image) (slab : Slab) (class page index : ℕ) (used : List ℕ) (now : Image) → IsCleared before slab class page used index now → class < 9
+pub cleared-known : (before : Image) (slab : Slab) (class page index : ℕ) (used : List ℕ) (now : Image) → HasBitCleared before slab class page used index now → class < 9
 cleared-known before slab class page index used now h = (h.laid.sound.used page class used h.is).known
 
-pub cleared-taken : (before : Image) (slab : Slab) (class page index : ℕ) (used : List ℕ) (now : Image) → IsCleared before slab class page used index now → IsTaken now page
+pub cleared-taken : (before : Image) (slab : Slab) (class page index : ℕ) (used : List ℕ) (now : Image) → HasBitCleared before slab class page used index now → IsTaken now page
 cleared-taken before slab class page index used now h = taken-later before now page h.runs (class-taken before slab page class used h.laid h.is)
 
 -- it can grant a block
-open_again : (before : Image) (slab : Slab) (class page index : ℕ) (used : List ℕ) (now : Image) → IsCleared before slab class page used index now → is_full slab.shape class (without index used) ≡ false
+open_again : (before : Image) (slab : Slab) (class page index : ℕ) (used : List ℕ) (now : Image) → HasBitCleared before slab class page used index now → is_full slab.shape class (without index used) ≡ false
 open_again before slab class page index used now h =
     let u = used-usable slab.shape class index used (h.laid.sound.used page class used h.is) ((member index used).0 h.member) in
     not_full slab.shape class index (without index used) u.0 u.1 (is_member-without index index used ∙ gone index (is_member index used)) where
       gone : (n : ℕ) (t : Bool) → (t && not (eqb n n)) ≡ false
       gone n t = grind (arith, common_steps)
 
-cleared-laid : (before : Image) (slab : Slab) (class page index : ℕ) (used : List ℕ) (now : Image) → IsCleared before slab class page used index now → LaysSlab now.words (with_page slab page (Class class (without index used)))
+cleared-laid : (before : Image) (slab : Slab) (class page index : ℕ) (used : List ℕ) (now : Image) → HasBitCleared before slab class page used index now → LaysSlab now.words (with_page slab page (Class class (without index used)))
 cleared-laid before slab class page index used now h =
     let pl = placed slab h.laid.sound in
     let known = cleared-known before slab class page index used now h in
@@ -71,14 +71,14 @@ cleared-laid before slab class page index used now h =
     (subst (λ (s : Shape). ChangesBits s class page before.words now.words) (sym h.laid.shape_is) h.changes)
     (record { bits = bits.bits; next_if_full = λ full. absurd (differ full open_still); prev_if_full = λ full. absurd (differ full open_still) })
 
-cleared-placed : (before : Image) (slab : Slab) (class page index : ℕ) (used : List ℕ) (now : Image) → IsCleared before slab class page used index now → Placed (with_page slab page (Class class (without index used)))
+cleared-placed : (before : Image) (slab : Slab) (class page index : ℕ) (used : List ℕ) (now : Image) → HasBitCleared before slab class page used index now → Placed (with_page slab page (Class class (without index used)))
 cleared-placed before slab class page index used now h =
     let pl = placed slab h.laid.sound in
     placed-page slab class page (without index used) pl (cleared-known before slab class page index used now h) (class_in-zone slab page class used pl h.is) (λ e. later_class class used (sym e ∙ h.is))
     (λ c ok m. let q = pl.listed c page ok m in ((same_class c class q.0 used (sym q.1 ∙ h.is)).0, open_again before slab class page index used now h))
 
 -- the class's list is as before
-pub cleared-list : (before : Image) (slab : Slab) (class page index : ℕ) (used : List ℕ) (now : Image) → IsCleared before slab class page used index now → HasList now class (list_of slab class)
+pub cleared-list : (before : Image) (slab : Slab) (class page index : ℕ) (used : List ℕ) (now : Image) → HasBitCleared before slab class page used index now → HasList now class (list_of slab class)
 cleared-list before slab class page index used now h =
     let known = cleared-known before slab class page index used now h in
     let l = cleared-laid before slab class page index used now h in
@@ -90,19 +90,19 @@ cleared-list before slab class page index used now h =
     }
 
 -- its statistics too, which say that a block of the class was live
-pub cleared-stat : (before : Image) (slab : Slab) (class page index : ℕ) (used : List ℕ) (now : Image) → IsCleared before slab class page used index now → LaysStat now.words class (stat_of slab class) × (usable_blocks slab.shape class ≤ (stat_of slab class).total) × (0 < (stat_of slab class).used)
+pub cleared-stat : (before : Image) (slab : Slab) (class page index : ℕ) (used : List ℕ) (now : Image) → HasBitCleared before slab class page used index now → LaysStat now.words class (stat_of slab class) × (usable_blocks slab.shape class ≤ (stat_of slab class).total) × (0 < (stat_of slab class).used)
 cleared-stat before slab class page index used now h =
     let known = cleared-known before slab class page index used now h in
     let t = class-taken before slab page class used h.laid h.is in
     let c = stat_covers slab class page used h.laid.sound known h.is in
     (bits-stat before.shape class page class (stat_of slab class) before.words now.words t.limits known h.changes (h.laid.laid.stats class known), c.0, omega (arith, c.1, (h.laid.sound.used page class used h.is).some))
 
-cleared-behind : (before : Image) (slab : Slab) (class page index : ℕ) (used : List ℕ) (now : Image) → IsCleared before slab class page used index now → KeepsBehind before.shape class page before.words now.words
+cleared-behind : (before : Image) (slab : Slab) (class page index : ℕ) (used : List ℕ) (now : Image) → HasBitCleared before slab class page used index now → KeepsBehind before.shape class page before.words now.words
 cleared-behind before slab class page index used now h = let t = class-taken before slab page class used h.laid h.is in behind-bits before.shape class page before.words now.words t.limits t.below h.changes
 
 -- ---- the page had room before
 
-pub counted-back : (before : Image) (slab : Slab) (class page index : ℕ) (used : List ℕ) (now new : Image) (first : ℕ) (left : List ℕ) → IsCleared before slab class page used index now → without index used ≡ first ∷ left → is_full slab.shape class used ≡ false → KeepsRuns now new → ChangesStat now.words new.words class → ((s : Stat) → LaysStat now.words class s → LaysStat new.words class (count_return 0 s)) → LaysPool new (give_in_page slab page class used (first ∷ left)) × KeepsPages before new
+pub counted-back : (before : Image) (slab : Slab) (class page index : ℕ) (used : List ℕ) (now new : Image) (first : ℕ) (left : List ℕ) → HasBitCleared before slab class page used index now → without index used ≡ first ∷ left → is_full slab.shape class used ≡ false → KeepsRuns now new → ChangesStat now.words new.words class → ((s : Stat) → LaysStat now.words class s → LaysStat new.words class (count_return 0 s)) → LaysPool new (give_in_page slab page class used (first ∷ left)) × KeepsPages before new
 counted-back before slab class page index used now new first left h left_is room k c counts =
     let s = h.laid.sound in
     let known = cleared-known before slab class page index used now h in
@@ -126,7 +126,7 @@ full-out slab class page used s known is full m =
     let q = (placed slab s).listed class page known m in
     differ full (ap (λ u. is_full slab.shape class u) (same_class class class used q.0 (sym is ∙ q.1)).1 ∙ q.2)
 
-pub listed-back : (before : Image) (slab : Slab) (class page index : ℕ) (used : List ℕ) (now b new : Image) (first : ℕ) (left : List ℕ) → IsCleared before slab class page used index now → without index used ≡ first ∷ left → is_full slab.shape class used ≡ true → KeepsRuns now b → Pushes now.shape class page (list_of slab class) now.words b.words → KeepsRuns b new → ChangesStat b.words new.words class → ((s : Stat) → LaysStat b.words class s → LaysStat new.words class (count_return 0 s)) → LaysPool new (give_in_page slab page class used (first ∷ left)) × KeepsPages before new
+pub listed-back : (before : Image) (slab : Slab) (class page index : ℕ) (used : List ℕ) (now b new : Image) (first : ℕ) (left : List ℕ) → HasBitCleared before slab class page used index now → without index used ≡ first ∷ left → is_full slab.shape class used ≡ true → KeepsRuns now b → Pushes now.shape class page (list_of slab class) now.words b.words → KeepsRuns b new → ChangesStat b.words new.words class → ((s : Stat) → LaysStat b.words class s → LaysStat new.words class (count_return 0 s)) → LaysPool new (give_in_page slab page class used (first ∷ left)) × KeepsPages before new
 listed-back before slab class page index used now b new first left h left_is full kb u k c counts =
     let s = h.laid.sound in
     let known = cleared-known before slab class page index used now h in
@@ -168,7 +168,7 @@ last-in slab class page index used s is there none =
       other a b ne = grind (arith, common_steps, ne)
 
 -- the words of a page that the unlinking doesn't change
-unlinked-same : (slab : Slab) (class page q : ℕ) (used : List ℕ) (old new : List ℕ) → Placed slab → class < 9 → page_at slab.pages page ≡ Class class used → ChangesLinks class page (list_of slab class) old new → q ≢ page → (In q (list_of slab class) → ⊥) → SameWords old new (descriptor q)
+unlinked-same : (slab : Slab) (class page q : ℕ) (used : List ℕ) (old new : List ℕ) → Placed slab → class < 9 → page_at slab.pages page ≡ Class class used → RelinksPages class page (list_of slab class) old new → q ≢ page → (In q (list_of slab class) → ⊥) → SameWords old new (descriptor q)
 unlinked-same slab class page q used old new p known is c ne out = same-descriptor old new q (λ w a b. c.others w (λ e. omega (arith, e, a, known)) (λ o m. (λ e. none o m (omega (arith, e, a, b)), λ e. none o m (omega (arith, e, a, b))))) where
   none : (o : ℕ) → (o ≡ page) ⊎ In o (list_of slab class) → o ≡ q → ⊥
   none o m e = elim m [ inl same ↦ ne (sym e ∙ same) | inr i ↦ out (subst (λ (n : ℕ). In n (list_of slab class)) e i) ]
@@ -188,7 +188,7 @@ type-rest exact = refl
 type-rest big = refl
 
 -- each page that isn't free still has the descriptor of one
-unlinked-busy : (slab : Slab) (class page q : ℕ) (used : List ℕ) (old now b : List ℕ) → Placed slab → class < 9 → page < pages_in slab → IsInLimits slab.shape → page_at slab.pages page ≡ Class class used → ChangesBits slab.shape class page old now → Unlinks slab.shape class page (list_of slab class) now b → q < pages_in slab → IsBusy old q → IsBusy b q
+unlinked-busy : (slab : Slab) (class page q : ℕ) (used : List ℕ) (old now b : List ℕ) → Placed slab → class < 9 → page < pages_in slab → IsInLimits slab.shape → page_at slab.pages page ≡ Class class used → ChangesBits slab.shape class page old now → UnlinksPage slab.shape class page (list_of slab class) now b → q < pages_in slab → IsBusy old q → IsBusy b q
 unlinked-busy slab class page q used old now b p known below limits is c u low busy = elim (cases_eq q page) [
   | inl e ↦ inl (λ z. not-zero (kind_of slab.shape class) _ (ap (λ n. prev_at b (descriptor n) % 4) e ∙ ap (λ n. n % 4) u.prev ∙ type-rest (kind_of slab.shape class)) z)
   | inr ne ↦ elim (cases_Bool (is_member q (list_of slab class))) [
@@ -203,7 +203,7 @@ unlinked-busy slab class page q used old now b p known below limits is c u low b
   still : (a b : ℕ) (t : Bool) → a ≢ b → t ≡ true → (t && not (eqb a b)) ≡ true
   still a b t ne e = grind (arith, common_steps, ne, e)
 
-pub last-may_put : (before : Image) (slab : Slab) (class page index : ℕ) (used : List ℕ) (now b : Image) → IsCleared before slab class page used index now → KeepsRuns now b → Unlinks now.shape class page (list_of slab class) now.words b.words → MayPut b (record { first = page; pages = 1 })
+pub last-may_put : (before : Image) (slab : Slab) (class page index : ℕ) (used : List ℕ) (now b : Image) → HasBitCleared before slab class page used index now → KeepsRuns now b → UnlinksPage now.shape class page (list_of slab class) now.words b.words → MayPut b (record { first = page; pages = 1 })
 last-may_put before slab class page index used now b h k u =
     let s = h.laid.sound in
     let pl = placed slab s in
@@ -213,7 +213,7 @@ last-may_put before slab class page index used now b h k u =
     let runs = k.laid slab.runs (h.runs.laid slab.runs (pool-runs before slab h.laid)) in
     let back = page-back before.words slab page class used s h.laid.laid h.is below in
     let changes = subst (λ (sh : Shape). ChangesBits sh class page before.words now.words) (sym h.laid.shape_is) h.changes in
-    let unlinks = subst (λ (sh : Shape). Unlinks sh class page (list_of slab class) now.words b.words) shape_now u in (
+    let unlinks = subst (λ (sh : Shape). UnlinksPage sh class page (list_of slab class) now.words b.words) shape_now u in (
       slab.runs,
       runs,
       subst (λ (sh : Shape). CanComeBack (pages_of sh) b.words slab.runs (record { first = page; pages = 1 })) (sym (k.shape_is ∙ shape_now))
@@ -258,7 +258,7 @@ page-put slab class page used left lists b d s is l own laid h =
 -- what the steps leave
 pub record LastSteps (class page : ℕ) (listed : List ℕ) (less : ℕ) (now b d new : Image) : Type 0 where
   pub unlink_runs : KeepsRuns now b
-  pub unlinks : Unlinks now.shape class page listed now.words b.words
+  pub unlinks : UnlinksPage now.shape class page listed now.words b.words
   pub put_laid : (runs : List Run) → LaysRuns b runs → LaysRuns d (give_run (record { first = page; pages = 1 }) runs)
   pub put_kept : (runs : List Run) → LaysRuns b runs → KeepsOthers (give_run (record { first = page; pages = 1 }) runs) b.words d.words
   pub put_shape : d.shape ≡ b.shape
@@ -266,7 +266,7 @@ pub record LastSteps (class page : ℕ) (listed : List ℕ) (less : ℕ) (now b 
   pub stat : ChangesStat d.words new.words class
   pub counts : (s : Stat) → LaysStat d.words class s → LaysStat new.words class (count_return less s)
 
-pub last-back : (before : Image) (slab : Slab) (class page index less : ℕ) (used : List ℕ) (now b d new : Image) → IsCleared before slab class page used index now → without index used ≡ [] → LastSteps class page (list_of slab class) less now b d new → less ≡ usable_blocks slab.shape class → LaysPool new (give_in_page slab page class used []) × KeepsPages before new
+pub last-back : (before : Image) (slab : Slab) (class page index less : ℕ) (used : List ℕ) (now b d new : Image) → HasBitCleared before slab class page used index now → without index used ≡ [] → LastSteps class page (list_of slab class) less now b d new → less ≡ usable_blocks slab.shape class → LaysPool new (give_in_page slab page class used []) × KeepsPages before new
 last-back before slab class page index less used now b d new h none steps less_is =
     let s = h.laid.sound in
     let known = cleared-known before slab class page index used now h in
@@ -280,7 +280,7 @@ last-back before slab class page index less used now b d new h none steps less_i
     let shape_b : b.shape ≡ slab.shape = steps.unlink_runs.shape_is ∙ shape_now in
     let shape_d : d.shape ≡ slab.shape = steps.put_shape ∙ shape_b in
     let in_lists : class < length slab.lists = omega (arith, s.list_count, known) in
-    let u = subst (λ (sh : Shape). Unlinks sh class page (list_of slab class) now.words b.words) shape_now steps.unlinks in
+    let u = subst (λ (sh : Shape). UnlinksPage sh class page (list_of slab class) now.words b.words) shape_now steps.unlinks in
     let l_b = LaysSlab-links (with_page slab page state) class page (without index used) (without page (list_of slab class)) now.words b.words pl_now known in_lists (page_own slab page state pl below) l (runs-at now b slab.shape slab.runs steps.unlink_runs shape_now l.runs) u.changes (λ f. absurd (differ f open_still)) u.linked in
     let runs_b : LaysRuns b slab.runs = subst (λ (sh : Shape). LaysRuns (record { shape = sh; words = b.words }) slab.runs) (sym shape_b) l_b.runs in
     let runs_d = subst (λ (sh : Shape). LaysRuns (record { shape = sh; words = d.words }) (give_run (record { first = page; pages = 1 }) slab.runs)) shape_d (steps.put_laid slab.runs runs_b) in
@@ -320,7 +320,7 @@ last-back before slab class page index less used now b d new h none steps less_i
         )
 
 -- the statistics stand as before
-pub last-stat : (before : Image) (slab : Slab) (class page index : ℕ) (used : List ℕ) (now b d : Image) → IsCleared before slab class page used index now → KeepsRuns now b → Unlinks now.shape class page (list_of slab class) now.words b.words → ((runs : List Run) → LaysRuns b runs → KeepsOthers (give_run (record { first = page; pages = 1 }) runs) b.words d.words) → LaysStat d.words class (stat_of slab class)
+pub last-stat : (before : Image) (slab : Slab) (class page index : ℕ) (used : List ℕ) (now b d : Image) → HasBitCleared before slab class page used index now → KeepsRuns now b → UnlinksPage now.shape class page (list_of slab class) now.words b.words → ((runs : List Run) → LaysRuns b runs → KeepsOthers (give_run (record { first = page; pages = 1 }) runs) b.words d.words) → LaysStat d.words class (stat_of slab class)
 last-stat before slab class page index used now b d h k u kept =
     let known = cleared-known before slab class page index used now h in
     let runs = k.laid slab.runs (h.runs.laid slab.runs (pool-runs before slab h.laid)) in
@@ -365,10 +365,10 @@ left-some [] ne = absurd (ne refl)
 left-some (x ∷ xs) ne = (x, xs, refl)
 
 -- what clearing the bit leaves
-pub clears : (old new : Image) (slab : Slab) (class page index : ℕ) (used : List ℕ) → LaysPool old slab → page_at slab.pages page ≡ Class class used → is_member index used ≡ true → KeepsRuns old new → ChangesBits old.shape class page old.words new.words → ((us : List ℕ) → HasBits old.words old.shape page class us → HasBits new.words old.shape page class (without index us)) → IsCleared old slab class page used index new
+pub clears : (old new : Image) (slab : Slab) (class page index : ℕ) (used : List ℕ) → LaysPool old slab → page_at slab.pages page ≡ Class class used → is_member index used ≡ true → KeepsRuns old new → ChangesBits old.shape class page old.words new.words → ((us : List ℕ) → HasBits old.words old.shape page class us → HasBits new.words old.shape page class (without index us)) → HasBitCleared old slab class page used index new
 clears old new slab class page index used p is there k c bits = record { laid = p; is = is; member = there; runs = k; changes = c; bits = bits used (pool-bits old slab page class used p is) }
 
-pub now-bits : (before : Image) (slab : Slab) (class page index : ℕ) (used : List ℕ) (now : Image) → IsCleared before slab class page used index now → HasBits now.words now.shape page class (without index used)
+pub now-bits : (before : Image) (slab : Slab) (class page index : ℕ) (used : List ℕ) (now : Image) → HasBitCleared before slab class page used index now → HasBits now.words now.shape page class (without index used)
 now-bits before slab class page index used now h = subst (λ (s : Shape). HasBits now.words s page class (without index used)) (sym h.runs.shape_is) h.bits
 
 pub not-true : (b : Bool) → b ≡ false → IsTrue b → ⊥

@@ -17,7 +17,7 @@ use Rattle.slab_pages.proofs.PlaceLemmas.{descriptor-word, descriptor-injective}
 use Rattle.slab_pages.proofs.SetLemmas.{may_set-before, may_set-used}
 use Rattle.slab_pages.proofs.WriteLemmas.{get-written, get-read, length-written}
 use Rattle.slab_pool.specs.Links.{Linked, IsNode, LinksPages}
-use Rattle.slab_pool.specs.Steps.{HasRuns, IsTaken, IsTakenNode, HasList, KeepsRuns, Unlinks, Pushes}
+use Rattle.slab_pool.specs.PoolSteps.{HasRuns, IsTaken, IsTakenNode, HasList, KeepsRuns, UnlinksPage, Pushes}
 use Rattle.slab_pool.proofs.LinkLemmas.{descriptor-not_head, nodes_apart, linked-next, linked-prev, first_linked, TakesOut, taken_out, PutsFirst, put_first}
 
 -- ---- pages that aren't free
@@ -258,7 +258,7 @@ pub record UnlinkSteps (class page : ℕ) (old mid next new : Image) : Type 0 wh
   pub first : next ≡ record { shape = mid.shape; words = set mid.words (o / 8 + 1) 0 }
   pub second : new ≡ record { shape = next.shape; words = set next.words (o / 8 + 2) v }
 
-unlinked-split : (class page : ℕ) (xs ys : List ℕ) (old mid next new : Image) → class < 9 → IsTaken old page → HasList old class (xs ++ page ∷ ys) → UnlinkSteps class page old mid next new → Unlinks old.shape class page (xs ++ page ∷ ys) old.words new.words
+unlinked-split : (class page : ℕ) (xs ys : List ℕ) (old mid next new : Image) → class < 9 → IsTaken old page → HasList old class (xs ++ page ∷ ys) → UnlinkSteps class page old mid next new → UnlinksPage old.shape class page (xs ++ page ∷ ys) old.words new.words
 unlinked-split class page xs ys old mid next new known taken l s = go (neighbours-split old class page xs ys known l) (ap (λ (i : Image). i.words) s.first) (ap (λ (i : Image). i.words) s.second) (ap (λ n. n / 8) s.o_is) where
   d : ℕ
   d = descriptor page
@@ -269,7 +269,7 @@ unlinked-split class page xs ys old mid next new known taken l s = go (neighbour
   after : ℕ
   after = next_at old.words d
 
-  go : Neighbours old class page → next.words ≡ set mid.words (s.o / 8 + 1) 0 → new.words ≡ set next.words (s.o / 8 + 2) s.v → s.o / 8 ≡ d / 8 → Unlinks old.shape class page (xs ++ page ∷ ys) old.words new.words
+  go : Neighbours old class page → next.words ≡ set mid.words (s.o / 8 + 1) 0 → new.words ≡ set next.words (s.o / 8 + 2) s.v → s.o / 8 ≡ d / 8 → UnlinksPage old.shape class page (xs ++ page ∷ ys) old.words new.words
   go n one two eight =
       let p_before : s.p ≡ n.before + s.t = s.p_is ∙ ap (λ i. prev_at old.words i) s.o_is ∙ n.before_is ∙ ap (λ i. n.before + i) (sym s.t_is) in
       let k : LinksPages class type old.words mid.words n.before after = subst (λ (i : ℕ). LinksPages class type old.words mid.words i after) (omega (arith, p_before)) (subst (λ (i : ℕ). LinksPages class type old.words mid.words (s.p - s.t) i) (s.f_is ∙ ap (λ i. next_at old.words i) s.o_is) s.link) in
@@ -314,7 +314,7 @@ unlinked-split class page xs ys old mid next new known taken l s = go (neighbour
           | inr m ↦ ns m.0 (In-append_right m.0 xs (page ∷ ys) (inr m.1)) (omega (arith, e, ap (λ i. i / 8) m.2, descriptor-word m.0))
         ]
 
-pub unlinked : (class page : ℕ) (listed : List ℕ) (old mid next new : Image) → class < 9 → IsTaken old page → UnlinkSteps class page old mid next new → HasList old class listed → In page listed → Unlinks old.shape class page listed old.words new.words
+pub unlinked : (class page : ℕ) (listed : List ℕ) (old mid next new : Image) → class < 9 → IsTaken old page → UnlinkSteps class page old mid next new → HasList old class listed → In page listed → UnlinksPage old.shape class page listed old.words new.words
 unlinked class page listed old mid next new known taken s l m =
     let split = In-split page listed m in
-    subst (λ (ls : List ℕ). Unlinks old.shape class page ls old.words new.words) (sym split.2) (unlinked-split class page split.0 split.1 old mid next new known taken (subst (λ (ls : List ℕ). HasList old class ls) split.2 l) s)
+    subst (λ (ls : List ℕ). UnlinksPage old.shape class page ls old.words new.words) (sym split.2) (unlinked-split class page split.0 split.1 old mid next new known taken (subst (λ (ls : List ℕ). HasList old class ls) split.2 l) s)

@@ -25,7 +25,7 @@ use Rattle.slab_pages.proofs.FrameLemmas.{pages-behind}
 use Rattle.slab_pool.specs.Bits.{HasBits}
 use Rattle.slab_pool.specs.Pool.{LaysPool}
 use Rattle.slab_pool.specs.Live.{KeepsPages}
-use Rattle.slab_pool.specs.Steps.{IsTaken, HasList, KeepsRuns, ChangesBits, ChangesLinks, Pushes, Answers, begun, BeginsPage, KeepsBehind}
+use Rattle.slab_pool.specs.PoolSteps.{IsTaken, HasList, KeepsRuns, ChangesBits, RelinksPages, Pushes, Answers, begun, BeginsPage, KeepsBehind}
 use Rattle.slab_pool.proofs.KindLemmas.{kind-exact}
 use Rattle.slab_pool.proofs.RunLemmas.{pool-runs, run-granted}
 use Rattle.slab_pool.proofs.BitSteps.{changes-both}
@@ -64,7 +64,7 @@ laid-begun slab class page old b d new s l known is none h =
     let own : LaysClassPage b slab.shape page class used = record { bits = h.bits.bits; next_if_full = λ full. absurd (differ full open_still); prev_if_full = λ full. absurd (differ full open_still) } in
     let l_b = LaysSlab-bits slab class page used old b pl known below not_later l (h.mark_runs slab.runs l.runs) h.marks own in
     let pl_b = placed-page slab class page used pl known below not_later (λ c ok m. let q = pl.listed c page ok m in absurd (first_class 1 c q.0 (sym is ∙ q.1))) in
-    let changes = subst (λ (ps : List ℕ). ChangesLinks class page ps b d) (sym none) h.pushes.changes in
+    let changes = subst (λ (ps : List ℕ). RelinksPages class page ps b d) (sym none) h.pushes.changes in
     let l_d = LaysSlab-links (with_page slab page state) class page used (page ∷ []) b d pl_b known in_lists (page_own slab page state pl below) l_b (h.push_runs slab.runs l_b.runs) changes (λ full. absurd (differ full open_still)) h.pushes.linked in
     counted (with_list (with_page slab page state) class (page ∷ [])) class (count_grant (usable_blocks slab.shape class) (stat_of slab class)) d new s.limits known in_stats h.stat (h.counts (stat_of slab class) (l_d.stats class known)) l_d
   where

@@ -17,7 +17,7 @@ use Rattle.slab_pages.specs.SlabLayout.{LaysPages, LaysClass, LaysClassPage, Lay
 use Rattle.slab_pages.specs.Frames.{SameWords, SameLinks}
 use Rattle.slab_pages.proofs.PlaceLemmas.{descriptor-word}
 use Rattle.slab_pages.proofs.FrameLemmas.{pages-behind, same-descriptor, same-links, LaysHeader-kept, LaysStat-kept, LaysClass-kept, HasUsedRun-kept, LaysBits-kept, LaysClassPage-kept}
-use Rattle.slab_pool.specs.Steps.{ChangesBits, ChangesLinks}
+use Rattle.slab_pool.specs.PoolSteps.{ChangesBits, RelinksPages}
 use Rattle.slab_pool.specs.Links.{Linked}
 use Rattle.slab_pool.proofs.KindLemmas.{numbers}
 
@@ -158,7 +158,7 @@ of-Linked words shape class o (q ∷ qs) l = (l.0, l.1, of-Linked words shape cl
 abbrev pub FullLinks : Slab → ℕ → ℕ → List ℕ → List ℕ → Type 0
 FullLinks slab class page used new = is_full slab.shape class used ≡ true → (next_at new (descriptor page) ≡ 0) × (prev_at new (descriptor page) ≡ type_of (kind_of slab.shape class))
 
-pub LaysSlab-links : (slab : Slab) (class page : ℕ) (used listed : List ℕ) (old new : List ℕ) → Placed slab → class < 9 → class < length slab.lists → page_at slab.pages page ≡ Class class used → LaysSlab old slab → LaysRuns (record { shape = slab.shape; words = new }) slab.runs → ChangesLinks class page (list_of slab class) old new → FullLinks slab class page used new → Linked new (class_head class) (type_of (kind_of slab.shape class)) (class_head class) listed → LaysSlab new (with_list slab class listed)
+pub LaysSlab-links : (slab : Slab) (class page : ℕ) (used listed : List ℕ) (old new : List ℕ) → Placed slab → class < 9 → class < length slab.lists → page_at slab.pages page ≡ Class class used → LaysSlab old slab → LaysRuns (record { shape = slab.shape; words = new }) slab.runs → RelinksPages class page (list_of slab class) old new → FullLinks slab class page used new → Linked new (class_head class) (type_of (kind_of slab.shape class)) (class_head class) listed → LaysSlab new (with_list slab class listed)
 LaysSlab-links slab class page used listed old new p known room is l runs c full linked =
     let below = class_in-zone slab page class used p is in
     -- the pages whose links may change are pages of the class

@@ -5,7 +5,7 @@ use Rattle.zone_region.specs.Members.{In}
 use Rattle.slab_model.specs.declared.shape.Shape.{Shape}
 use Rattle.slab_model.specs.Geometry.{Kind, small, exact, big, kind_of, class_count, first_index, blocks_in_page}
 use Rattle.slab_model.specs.Numbers.{is_member}
-use Rattle.slab_pages.specs.Places.{page_word, descriptor_word, descriptor, slab_at}
+use Rattle.slab_pages.specs.Places.{page_word, descriptor, slab_at}
 use Rattle.slab_pages.specs.SlabLayout.{LaysBits}
 
 -- word `j` of a page's bits: one of its bitmap, its slab word, or the upper half of that
@@ -13,12 +13,6 @@ abbrev pub bits_word : Kind → List ℕ → Shape → ℕ → ℕ → ℕ
 bits_word small words shape page j = slice_index words (page_word shape page + j)
 bits_word exact words shape page j = slab_at words (descriptor page)
 bits_word big words shape page j = slab_at words (descriptor page) / 2 ^ 32
-
--- the number of the zone's word that holds it
-abbrev pub bits_place : Kind → Shape → ℕ → ℕ → ℕ
-bits_place small shape page j = page_word shape page + j
-bits_place exact shape page j = descriptor_word page
-bits_place big shape page j = descriptor_word page
 
 -- the half of the slab word that holds a big class's shift
 abbrev pub HasShift : Kind → List ℕ → ℕ → ℕ → Type 0

@@ -9,7 +9,7 @@ pub use Rattle.slab_pages.specs.SlabLayout
 pub mod WordBits
 pub mod Links
 pub mod Bits
-pub mod Steps
+pub mod PoolSteps
 pub mod Pool
 pub mod Live
 pub mod Refusals

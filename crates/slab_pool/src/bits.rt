@@ -5,7 +5,7 @@ ghost use Rattle.slab_pages.specs.Places.{bitmap_words as bitmap_words_of, page_
 ghost use Rattle.slab_pages.specs.SlabLayout.{LaysBits};
 ghost use Rattle.slab_pool.specs.Bits.{bits_word, bits_limit, HasShift, IsBitsWord, HasBits};
 ghost use Rattle.slab_pool.specs.WordBits.{IsLowestClear};
-ghost use Rattle.slab_pool.specs.Steps.{IsTaken, KeepsRuns, ChangesBits, SetsBits, IsFirstUnused};
+ghost use Rattle.slab_pool.specs.PoolSteps.{IsTaken, KeepsRuns, ChangesBits, SetsBits, IsFirstUnused};
 
 use crate::places::{page_offset, shape_of, slab};
 use slab_model::{Shape, blocks_in_page, first_index};

@@ -11,7 +11,7 @@ ghost use Rattle.slab_pages.specs.SlabLayout.{LaysSlab};
 ghost use Rattle.slab_pool.specs.Bits.{HasBits};
 ghost use Rattle.slab_pool.specs.Pool.{LaysPool};
 ghost use Rattle.slab_pool.specs.Live.{KeepsPages, ClearsWords};
-ghost use Rattle.slab_pool.specs.Steps.{IsTaken, HasList, KeepsRuns, KeepsBehind, LeavesIfFull, BeginsPage, Answers};
+ghost use Rattle.slab_pool.specs.PoolSteps.{IsTaken, HasList, KeepsRuns, KeepsBehind, LeavesIfFull, BeginsPage, Answers};
 
 use crate::bits::{begin_bits, first_unused, mark};
 use crate::lists::{first_page, push, unlink};

@@ -4,7 +4,7 @@ ghost use Rattle.slab_model.specs.Geometry.{class_count, kind_of};
 ghost use Rattle.slab_pages.specs.Places.{class_head, descriptor};
 ghost use Rattle.slab_pages.specs.SlabLayout.{type_of as type_of_kind};
 ghost use Rattle.slab_pool.specs.Links.{LinksPages};
-ghost use Rattle.slab_pool.specs.Steps.{IsTaken, IsTakenNode, HasList, HasRuns, KeepsRuns, Unlinks, Pushes};
+ghost use Rattle.slab_pool.specs.PoolSteps.{IsTaken, IsTakenNode, HasList, HasRuns, KeepsRuns, UnlinksPage, Pushes};
 
 use crate::bits::EXACT;
 use crate::places::{head_of, next, prev};
@@ -61,7 +61,7 @@ pub(crate) fn unlink(pages: &mut Pages, class: u32, page: u64)
     requires taken { IsTaken pages.old page }
     requires list { ((listed : List ℕ) × HasList pages.old class listed × In page listed) }
     ensures runs { KeepsRuns pages.old pages.new }
-    ensures unlinks { (listed : List ℕ) → HasList pages.old class listed → In page listed → Unlinks pages.old.shape class page listed pages.old.words pages.new.words }
+    ensures unlinks { (listed : List ℕ) → HasList pages.old class listed → In page listed → UnlinksPage pages.old.shape class page listed pages.old.words pages.new.words }
 {
     let o = offset_of(page);
     let before = prev(pages, o) - type_of(pages, class);

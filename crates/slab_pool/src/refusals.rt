@@ -5,7 +5,7 @@ ghost use Rattle.slab_model.specs.State.{Slab, page_at, pages_in};
 ghost use Rattle.slab_pool.specs.Bits.{HasBits};
 ghost use Rattle.slab_pool.specs.Pool.{LaysPool};
 ghost use Rattle.slab_pool.specs.Refusals.{refusal as refusal_of, refusal_in_class as refused_in_class, refusal_in_page as refused_in_page};
-ghost use Rattle.slab_pool.specs.Steps.{IsTaken};
+ghost use Rattle.slab_pool.specs.PoolSteps.{IsTaken};
 
 use crate::bits::is_used;
 use crate::fault::FreeFault;

@@ -8,7 +8,7 @@ ghost use Rattle.slab_model.specs.Return.{give_back as given_back, give_in_page 
 ghost use Rattle.slab_pages.specs.Places.{Image};
 ghost use Rattle.slab_pool.specs.Pool.{LaysPool};
 ghost use Rattle.slab_pool.specs.Live.{KeepsPages};
-ghost use Rattle.slab_pool.specs.Steps.{IsCleared};
+ghost use Rattle.slab_pool.specs.PoolSteps.{HasBitCleared};
 
 use crate::bits::{EXACT, clear, is_unused};
 use crate::lists::{push, unlink};
@@ -20,8 +20,8 @@ use slab_pages::{Page, Pages, offset_of};
 
 // Gives the page of the last block that came back to the free runs.
 fn give_last(pages: &mut Pages, class: u32, page: u64)
-    requires { ((before : Image) × (slab : Slab) × (used : List ℕ) × (index : ℕ) × IsCleared before slab class page used index pages.old × (without index used ≡ [])) }
-    ensures { (before : Image) (slab : Slab) (used : List ℕ) (index : ℕ) → IsCleared before slab class page used index pages.old → without index used ≡ [] →
+    requires { ((before : Image) × (slab : Slab) × (used : List ℕ) × (index : ℕ) × HasBitCleared before slab class page used index pages.old × (without index used ≡ [])) }
+    ensures { (before : Image) (slab : Slab) (used : List ℕ) (index : ℕ) → HasBitCleared before slab class page used index pages.old → without index used ≡ [] →
         LaysPool pages.new (given_in_page slab page class used []) × KeepsPages before pages.new }
 {
     unlink(pages, class, page);
@@ -32,8 +32,8 @@ fn give_last(pages: &mut Pages, class: u32, page: u64)
 
 // Puts a page that was full at the head of its class's list.
 fn list_again(pages: &mut Pages, class: u32, page: u64)
-    requires { ((before : Image) × (slab : Slab) × (used : List ℕ) × (index : ℕ) × IsCleared before slab class page used index pages.old × (is_full slab.shape class used ≡ true)) }
-    ensures { (before : Image) (slab : Slab) (used : List ℕ) (index first : ℕ) (left : List ℕ) → IsCleared before slab class page used index pages.old → without index used ≡ first ∷ left → is_full slab.shape class used ≡ true →
+    requires { ((before : Image) × (slab : Slab) × (used : List ℕ) × (index : ℕ) × HasBitCleared before slab class page used index pages.old × (is_full slab.shape class used ≡ true)) }
+    ensures { (before : Image) (slab : Slab) (used : List ℕ) (index first : ℕ) (left : List ℕ) → HasBitCleared before slab class page used index pages.old → without index used ≡ first ∷ left → is_full slab.shape class used ≡ true →
         LaysPool pages.new (given_in_page slab page class used (first ∷ left)) × KeepsPages before pages.new }
 {
     push(pages, class, page);

@@ -4,7 +4,7 @@ ghost use Rattle.slab_model.specs.Geometry.{class_count};
 ghost use Rattle.slab_model.specs.Counting.{count_grant as counted_grant, count_fail as counted_fail, count_return as counted_return};
 ghost use Rattle.slab_pages.specs.Frames.{ChangesStat};
 ghost use Rattle.slab_pages.specs.SlabLayout.{LaysStat};
-ghost use Rattle.slab_pool.specs.Steps.{HasRuns, KeepsRuns};
+ghost use Rattle.slab_pool.specs.PoolSteps.{HasRuns, KeepsRuns};
 
 use slab_model::Stat;
 use slab_pages::{Pages, stat_at};

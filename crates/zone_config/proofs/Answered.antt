@@ -4,14 +4,14 @@ use Rattle.directive_text.specs.declared.tree.Directive.{Directive}
 use Rattle.zone_config.specs.declared.data.Config.{Config}
 use Rattle.config_rules.specs.declared.fault.ConfigFault.{ConfigFault}
 use Rattle.config_rules.specs.declared.fault.ConfigFault.TheVariants.{At, NoMemory}
-use Rattle.config_rules.specs.Places.{places_of}
+use Rattle.config_rules.specs.InOrder.{places_of}
 use Rattle.config_rules.specs.Rules.{fault_of, zones_named}
 use Rattle.zone_config.specs.Configuration.{Configures, upstreams_of, zones_of}
 use Rattle.config_rules.specs.Answers.{ReadsFault}
 use Rattle.zone_config.specs.Reading.{GivesConfig, IsWithoutServer}
 use Rattle.std.specs.List.{All}
 use Rattle.zone_config.specs.Conditions.{AreLocations, AreZones, HasOwnServers, IsConfig, IsLevel, IsUpstream}
-use Rattle.zone_config.proofs.Steps.{has_server}
+use Rattle.zone_config.proofs.NextPlace.{has_server}
 use Rattle.zone_config.proofs.Bounded.{are_locations, are_zones}
 use Rattle.zone_config.proofs.Leveled.{Sure, levels_within, server_within}
 use Rattle.zone_config.proofs.Sound.{all_seated, all_sound}

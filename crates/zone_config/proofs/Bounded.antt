@@ -13,7 +13,7 @@ use Rattle.config_rules.specs.declared.earlier.Earlier.{Earlier}
 use Rattle.config_rules.specs.declared.earlier.ZoneNames.{ZoneNames}
 use Rattle.config_rules.specs.Words.{arguments_of, behind_first, has_block, line_of}
 use Rattle.config_rules.specs.Arguments.{meanings, declared_name, declared_size}
-use Rattle.config_rules.specs.Places.{Place, kind_at}
+use Rattle.config_rules.specs.InOrder.{Place, kind_at}
 use Rattle.config_rules.specs.Rules.{Seen, rules, first_broken, first_fault, fault_at, seen_at, noted, nothing, arguments_at, and_then_one, bytes_or_none, first_said, declares_one_of, has_repeats, is_again, limits_again, name_if_location}
 use Rattle.config_rules.proofs.Fits.{zone_fits}
 use Rattle.zone_config.specs.declared.data.ZoneSpec.{ZoneSpec}
@@ -23,7 +23,7 @@ use Rattle.zone_config.specs.Configuration.{req_zone, conn_zone, peer_zone, zone
 use Rattle.zone_config.specs.Conditions.{IsZone, IsZoneSpec, AreZones, AreLocations, zone_bytes}
 use Rattle.zone_config.proofs.Keeps.{Keeps, keeps_at, no_rule, seen_as}
 use Rattle.zone_config.proofs.Declaring.{Declares, ReqWords, SizeFits, first_tested, named, sized, conn_declares, peer_declares, req_declares, req_key, conn_key}
-use Rattle.zone_config.proofs.Steps.{no_fault}
+use Rattle.zone_config.proofs.NextPlace.{no_fault}
 use Rattle.zone_config.proofs.Behind.{Behind, behind_none, behind_more, behind_one}
 
 -- a zone, behind what stands before it

@@ -5,7 +5,7 @@ use Rattle.std.proofs.lemmas.List.{length_push}
 use Rattle.std.proofs.lemmas.List.Elements.{All-nil, All-push, filter-append}
 use Rattle.std.proofs.lemmas.List.Quantifiers.{all_pairs_push}
 use Rattle.directive_text.specs.declared.tree.Directive.{Directive}
-use Rattle.config_rules.specs.Places.{Place, Scope}
+use Rattle.config_rules.specs.InOrder.{Place, Scope}
 use Rattle.config_rules.proofs.Around.{Each}
 
 -- directives that are each in their limits, differ two by two, and are at most so many

@@ -8,7 +8,7 @@ use Rattle.config_rules.specs.declared.earlier.Earlier.{Earlier}
 use Rattle.config_rules.specs.declared.earlier.ZoneNames.{ZoneNames}
 use Rattle.config_rules.specs.Words.{arguments_of, has_block, line_of}
 use Rattle.config_rules.specs.Arguments.{meanings}
-use Rattle.config_rules.specs.Places.{Place, kind_at}
+use Rattle.config_rules.specs.InOrder.{Place, kind_at}
 use Rattle.config_rules.specs.Rules.{Fault, Seen, fault_at, rules, first_broken, misplaced, is_formed, is_unknown, has_bad_size, has_size, is_small, is_large, has_bad_rate, is_out_of_range, names_no_zone, declares_one_of, is_twice, is_too_many, has_taken_name, is_bad_key, lacks_primary}
 use Rattle.config_rules.proofs.Fits.{unbroken}
 

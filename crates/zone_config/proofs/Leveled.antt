@@ -14,7 +14,7 @@ use Rattle.config_rules.specs.declared.argument.Argument.TheVariants.{Number}
 use Rattle.config_rules.specs.declared.earlier.ZoneNames.{ZoneNames}
 use Rattle.config_rules.specs.Words.{arguments_of, first_of, has_block, host_of, inner_of, is_called}
 use Rattle.config_rules.specs.Arguments.{later_argument, meanings}
-use Rattle.config_rules.specs.Places.{Place, Scope, Sources, context_within, inherited, kind_at, scope_within}
+use Rattle.config_rules.specs.InOrder.{Place, Scope, Sources, context_within, inherited, kind_at, scope_within}
 use Rattle.config_rules.specs.Rules.{is_formed, is_out_of_range, zones_named}
 use Rattle.config_rules.proofs.Around.{Each, Source, Sourced, Whole}
 use Rattle.config_rules.proofs.Fits.{or_false}

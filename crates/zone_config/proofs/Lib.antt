@@ -1,4 +1,4 @@
-mod Steps
+mod NextPlace
 mod Keeps
 mod Declaring
 mod Behind

@@ -13,7 +13,7 @@ use Rattle.config_rules.specs.declared.kind.Kind.TheVariants.{LimitReq, LimitCon
 use Rattle.config_rules.specs.declared.argument.Argument.TheVariants.{Number, Use}
 use Rattle.config_rules.specs.Words.{arguments_of, behind_first, first_of, has_block, is_called, parameter, parameter_name, value_of}
 use Rattle.config_rules.specs.Arguments.{limit_argument, meanings, used_name}
-use Rattle.config_rules.specs.Places.{Place, Scope, kind_at}
+use Rattle.config_rules.specs.InOrder.{Place, Scope, kind_at}
 use Rattle.config_rules.specs.Rules.{has_repeats, is_again, is_formed, is_out_of_range, is_parameter, is_repeated, is_use_of, limits_again, limits_by, uses_one_of, zones_named}
 use Rattle.config_rules.proofs.Around.{Each}
 use Rattle.config_rules.proofs.Fits.{or_false}

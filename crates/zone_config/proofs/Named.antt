@@ -15,7 +15,7 @@ use Rattle.config_rules.specs.declared.kind.Kind.TheVariants.{ReqZone, ConnZone}
 use Rattle.config_rules.specs.declared.earlier.ZoneNames.{ZoneNames}
 use Rattle.config_rules.specs.Words.{arguments_of, behind_first, has_block}
 use Rattle.config_rules.specs.Arguments.{meanings}
-use Rattle.config_rules.specs.Places.{Place, kind_at}
+use Rattle.config_rules.specs.InOrder.{Place, kind_at}
 use Rattle.config_rules.specs.Rules.{arguments_at, conn_names, has_repeats, is_again, limits_again, names_if_conn, names_if_req, req_names}
 use Rattle.zone_config.specs.declared.data.ConnData.{ConnData}
 use Rattle.zone_config.specs.declared.data.ReqData.{ReqData}

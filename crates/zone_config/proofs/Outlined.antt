@@ -7,7 +7,7 @@ use Rattle.config_rules.specs.declared.kind.Kind.{Kind}
 use Rattle.config_rules.specs.declared.kind.Kind.TheVariants.{Server, Upstream as UpstreamKind, Location}
 use Rattle.zone_config.specs.declared.data.ZoneSpec.{ZoneSpec}
 use Rattle.zone_config.specs.declared.data.Upstream.{Upstream}
-use Rattle.config_rules.specs.Places.{Place, kind_at}
+use Rattle.config_rules.specs.InOrder.{Place, kind_at}
 use Rattle.zone_config.specs.Configuration.{level_of, location_at, server_among, server_at, server_if, upstream_at, upstream_of, upstreams_of}
 use Rattle.zone_config.specs.Outline.{if_upstream, level_places, upstream_directives}
 

@@ -12,7 +12,7 @@ use Rattle.config_rules.specs.declared.argument.Argument.TheVariants.{Number}
 use Rattle.config_rules.specs.declared.earlier.ZoneNames.{ZoneNames}
 use Rattle.config_rules.specs.Words.{arguments_of, first_of, has_block, is_called, value_of}
 use Rattle.config_rules.specs.Arguments.{later_argument, meanings}
-use Rattle.config_rules.specs.Places.{Place, Scope, kind_at}
+use Rattle.config_rules.specs.InOrder.{Place, Scope, kind_at}
 use Rattle.config_rules.specs.Rules.{is_backup, is_formed, is_in_list_of, is_name, is_out_of_range, is_primary}
 use Rattle.config_rules.proofs.Around.{Whole}
 use Rattle.config_rules.proofs.Fits.{or_false}

@@ -14,11 +14,11 @@ use Rattle.config_rules.specs.declared.earlier.Earlier.{Earlier}
 use Rattle.config_rules.specs.declared.earlier.ZoneNames.{ZoneNames}
 use Rattle.config_rules.specs.Words.{has_block, inner_of, is_called, name_of}
 use Rattle.config_rules.specs.Kinds.{kind_of}
-use Rattle.config_rules.specs.Places.{Place, Scope, context_within, kind_at, places_of, scope_within}
+use Rattle.config_rules.specs.InOrder.{Place, Scope, context_within, kind_at, places_of, scope_within}
 use Rattle.config_rules.specs.Rules.{fault_at, first_fault, is_primary, lacks_primary, misplaced, noted, nothing}
 use Rattle.config_rules.proofs.Around.{Around, Each, IsWithin, all_around, is_within}
 use Rattle.zone_config.proofs.Keeps.{Keeps, keeps_at, seen_as}
-use Rattle.zone_config.proofs.Steps.{no_fault}
+use Rattle.zone_config.proofs.NextPlace.{no_fault}
 
 -- a place of these places that keeps the rules
 pub record Sound (text : ZoneNames) (places : List Place) (p : Place) : Type 0 where

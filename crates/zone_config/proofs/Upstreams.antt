@@ -15,7 +15,7 @@ use Rattle.config_rules.specs.declared.kind.Kind.TheVariants as kind
 use Rattle.config_rules.specs.declared.earlier.ZoneNames.{ZoneNames}
 use Rattle.config_rules.specs.Words.{arguments_of, first_of, has_block, inner_of, is_called, line_of, name_of}
 use Rattle.config_rules.specs.Kinds.{elsewhere, in_http, in_location, is_limit_name, is_method, is_other_name, kind_of, limiting}
-use Rattle.config_rules.specs.Places.{Place, Scope, inherited, kind_at}
+use Rattle.config_rules.specs.InOrder.{Place, Scope, inherited, kind_at}
 use Rattle.config_rules.specs.Rules.{is_primary, zones_named}
 use Rattle.config_rules.proofs.Around.{Whole}
 use Rattle.zone_config.specs.declared.data.ZoneSpec.{ZoneSpec}

@@ -18,7 +18,7 @@ use Rattle.zone_config.specs.declared.data.Upstream.{Upstream as UpstreamData}
 use Rattle.zone_config.specs.declared.data.Config.{Config}
 use Rattle.config_rules.specs.Words.{first_of, behind_first, arguments_of, line_of, inner_of, is_called, has_called, value_of, parameter, declared_by, Declared, is_same_name, host_of}
 use Rattle.config_rules.specs.Numbers.{digits_of, rate_of, time_of}
-use Rattle.config_rules.specs.Places.{Place, Sources, inherited, kind_at}
+use Rattle.config_rules.specs.InOrder.{Place, Sources, inherited, kind_at}
 use Rattle.config_rules.specs.Rules.{is_backup, is_primary, location_name, bytes_or_none}
 
 -- a number of at most 2^30, and 0 where there is none

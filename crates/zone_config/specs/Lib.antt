@@ -2,7 +2,7 @@ pub use Rattle.config_rules.specs.Words
 pub use Rattle.config_rules.specs.Numbers
 pub use Rattle.config_rules.specs.Kinds
 pub use Rattle.config_rules.specs.Arguments
-pub use Rattle.config_rules.specs.Places
+pub use Rattle.config_rules.specs.InOrder
 pub use Rattle.config_rules.specs.Rules
 pub use Rattle.config_rules.specs.Answers
 pub mod Configuration

@@ -3,7 +3,7 @@ use Rattle.std.specs.Prelude.{List, Option, None, Some}
 use Rattle.std.specs.List.{filter_map}
 use Rattle.directive_text.specs.declared.tree.Directive.{Directive}
 use Rattle.config_rules.specs.declared.kind.Kind.TheVariants.{Server, Upstream, Location}
-use Rattle.config_rules.specs.Places.{Place, kind_at}
+use Rattle.config_rules.specs.InOrder.{Place, kind_at}
 
 -- an upstream's directive
 abbrev pub if_upstream : Place → Option Directive

@@ -4,7 +4,7 @@ use Rattle.directive_text.specs.declared.tree.Directive.{Directive}
 use Rattle.zone_config.specs.declared.data.Config.{Config}
 use Rattle.config_rules.specs.declared.fault.ConfigFault.{ConfigFault}
 use Rattle.config_rules.specs.declared.fault.ConfigFault.TheVariants.{At, NoMemory}
-use Rattle.config_rules.specs.Places.{Place, places_of}
+use Rattle.config_rules.specs.InOrder.{Place, places_of}
 use Rattle.config_rules.specs.Rules.{fault_of}
 use Rattle.zone_config.specs.Configuration.{Configures, server_among, upstreams_of, zones_of}
 

@@ -1,7 +1,7 @@
 ghost use Rattle.std.specs.Prelude.{◌≡◌, ◌++◌, IfOk, OnOk, MatchResult, map};
 ghost use Rattle.std.specs.Option.{option_to_list};
 ghost use Rattle.std.specs.List.{filter_map};
-ghost use Rattle.config_rules.specs.Places.{places_of};
+ghost use Rattle.config_rules.specs.InOrder.{places_of};
 ghost use Rattle.zone_config.specs.Configuration.{Configures, location_at, server_among, upstream_of};
 ghost use Rattle.zone_config.specs.Conditions.{IsConfig};
 ghost use Rattle.config_rules.specs.Answers.{ReadsFault};

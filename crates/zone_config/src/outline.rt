@@ -1,6 +1,6 @@
 ghost use Rattle.std.specs.Prelude.{◌≡◌, ◌+◌, ◌++◌, IfOk, OnOk, count_by, map, [], ◌∷◌};
 ghost use Rattle.std.specs.Option.{option_to_list};
-ghost use Rattle.config_rules.specs.Places.{kind_at, places_of};
+ghost use Rattle.config_rules.specs.InOrder.{kind_at, places_of};
 ghost use Rattle.config_rules.specs.Views.{place_now};
 ghost use Rattle.zone_config.specs.Configuration.{in_64_bits, is_passed, passed_among, zone_at, zones_of};
 ghost use Rattle.zone_config.specs.Outline.{if_level, if_upstream, level_places, upstream_directives};

@@ -9,13 +9,13 @@ use crate::text::Text;
 
 /// A named text that is read from its front.
 pub trait Source {
-    // The name, which no call changes.
+    /// The name, which no call changes.
     ghost name: { Self → List ℕ };
 
-    // The bytes still to come, where the source tells them.
+    /// The bytes still to come, where the source tells them.
     ghost left: { Self → Option (List ℕ) };
 
-    // How many reads have failed. The count stops at 2^64 - 1.
+    /// How many reads have failed. The count stops at 2^64 - 1.
     ghost faults: { Self → ℕ };
 
     /// Takes bytes from the front of what is left, and answers how many stand in `into`.
@@ -31,10 +31,10 @@ pub trait Source {
 
 /// What takes text.
 pub trait Sink {
-    // The bytes that were taken, where the sink tells them.
+    /// The bytes that were taken, where the sink tells them.
     ghost taken: { Self → Option (List ℕ) };
 
-    // How many writes have failed. The count stops at 2^64 - 1.
+    /// How many writes have failed. The count stops at 2^64 - 1.
     ghost faults: { Self → ℕ };
 
     /// Takes bytes from the front of `piece`, and answers how many: at least one, where `piece`
@@ -52,10 +52,10 @@ pub trait Shelf {
     /// An opened text. Whoever opened it settles it.
     type Item: Source;
 
-    // The text of a name, where the shelf tells it. No call changes it.
+    /// The text of a name, where the shelf tells it. No call changes it.
     ghost contents: { Self → List ℕ → Option (List ℕ) };
 
-    // How many opens of a name failed, and how many of its items met a failed read, at least.
+    /// How many opens of a name failed, and how many of its items met a failed read, at least.
     ghost faults: { Self → List ℕ → ℕ };
 
     /// Opens the text of this name. `Failed`: the count of faults of this name rose.

@@ -4,7 +4,7 @@ use Rattle.std.specs.Prelude.{nat_lt}
 use Rattle.std.specs.List.{filter_map}
 use Rattle.directive_text.specs.declared.tree.Directive.{Directive}
 use Rattle.directive_text.proofs.Meaning.{one_tree}
-use Rattle.config_rules.specs.Places.{Place, places_of}
+use Rattle.config_rules.specs.InOrder.{Place, places_of}
 use Rattle.zone_config.specs.declared.data.Config.{Config}
 use Rattle.zone_config.specs.declared.data.Level.{Level}
 use Rattle.zone_config.specs.declared.data.Upstream.{Upstream}

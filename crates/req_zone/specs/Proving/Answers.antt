@@ -22,7 +22,7 @@ use Rattle.req_zone.specs.Object.{parts_of, with_parts, answer_of, zone_after, H
 use Rattle.req_zone.specs.Laws.{with_table, IsWithinBurst, PassLaw, AgainLaw, admitted, FirstRoomLaw, SecondRoomLaw, IsAboveBurst, BusyLaw, BusyKeepsLaw, first_expired, forced_expired, asked_for, before_second, HasNoRoom, NoRoomLaw, NoRoomLeavesLaw, IsStillIn, HeldStaysLaw, AnswerLaw}
 use Rattle.req_zone.specs.Proving.Tables.{found_permutes, evicted_permutes}
 use Rattle.req_zone.specs.Proving.Expired.{IsFree, first_within, forced_within, first_free, forced_free}
-use Rattle.req_zone.specs.Proving.Steps.{amount_le, find_all}
+use Rattle.req_zone.specs.Proving.CallEffects.{amount_le, find_all}
 
 -- ---- replies that are told apart
 

@@ -16,7 +16,7 @@ use Rattle.req_zone.specs.Object.{context_size, name_size, once_at, holds_at}
 use Rattle.req_zone.specs.Holding.{nodes_at, named_at, HasNode}
 use Rattle.req_zone.specs.Laws.{SpaceLaw, IsHeldBy, HeldEntryLaw, blocks_of, WholeLaw}
 use Rattle.req_zone.specs.Proving.Tables.{nodes_more, holds_more}
-use Rattle.req_zone.specs.Proving.Steps.{unnamed}
+use Rattle.req_zone.specs.Proving.CallEffects.{unnamed}
 
 -- how often a number stands in a list
 times : ℕ → List ℕ → ℕ

@@ -15,7 +15,7 @@ use Rattle.req_zone.specs.Step.{new_entry}
 use Rattle.req_zone.specs.Holding.{IsWhole}
 use Rattle.req_zone.specs.Proving.Tables.{missing_none}
 use Rattle.req_zone.specs.Proving.Wholes.{whole_evict, whole_none, whole_new}
-use Rattle.req_zone.specs.Proving.Steps.{call_becomes}
+use Rattle.req_zone.specs.Proving.CallEffects.{call_becomes}
 use Rattle.req_zone.specs.Laws.{OldestWholeLaw, AskedWholeLaw, AdmittedWholeLaw, CallWholeLaw, with_table, stale_expired, forced_expired, oldest_left, NoneExpiresLaw, StaleStepLaw, ForcedStepLaw, FirstStepLaw}
 
 module _ {S : Type 0} (memory : BlockStore S) where

@@ -1,5 +1,5 @@
 use Rattle.std.proofs.Common.{◌≡◌, ◌≤◌, length}
-use Rattle.config_rules.specs.Places.{places_of}
+use Rattle.config_rules.specs.InOrder.{places_of}
 use Rattle.config_rules.specs.Rules.{first_fault, nothing}
 use Rattle.config_rules.proofs.check.check.Given as goal
 

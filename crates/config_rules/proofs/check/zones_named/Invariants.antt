@@ -1,5 +1,5 @@
 use Rattle.std.proofs.Common.{◌≡◌, ◌++◌, length}
-use Rattle.config_rules.specs.Places.{places_of}
+use Rattle.config_rules.specs.InOrder.{places_of}
 use Rattle.config_rules.specs.Rules.{conn_names, req_names}
 use Rattle.config_rules.proofs.check.zones_named.Given as goal
 

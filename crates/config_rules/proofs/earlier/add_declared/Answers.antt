@@ -2,7 +2,7 @@ use Rattle.std.proofs.Common.{◌++◌, take, append_assoc, sym, ◌∙◌, ap}
 use Rattle.std.specs.Option.{option_to_list}
 use Rattle.std.specs.List.{filter_map}
 use Rattle.config_rules.specs.Arguments.{declared_name}
-use Rattle.config_rules.proofs.Steps.{filter_map_more}
+use Rattle.config_rules.proofs.NextItems.{filter_map_more}
 use Rattle.config_rules.proofs.earlier.add_declared.Goals as goal
 
 pub loop-argument-preserved : goal.loop-argument-preserved

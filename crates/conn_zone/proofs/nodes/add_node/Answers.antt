@@ -1,14 +1,14 @@
 use Rattle.std.proofs.Common.{ℕ, ◌+◌, ◌*◌, ◌≤◌, length, ap, subst, sym, ◌∙◌, arith}
 use Rattle.std.specs.declared.option.Option.{Option}
 use Rattle.zone_region.specs.declared.blocks.Block.{Block}
-use Rattle.slab_model.specs.Inside.{offset_of}
+use Rattle.slab_model.specs.Grant.{granted_offset}
 use Rattle.offset_tree.specs.Bounds.{search_cost}
 use Rattle.conn_zone.specs.Step.{node_size}
 use Rattle.conn_zone.proofs.Stepping.{is_form, nodes_are, given_size, laid_size, refused_zone, GetsNode, can_add, added_zone}
 use Rattle.conn_zone.proofs.nodes.add_node.Goals as goal
 
 pub returns-in_err-node-clause-block : goal.returns-in_err-node-clause-block
-returns-in_err-node-clause-block g c s l none = ap (λ (r : Option Block). offset_of r) c.from_residual.ensures ∙ given_size s _ c.args.key.now _ (ap (λ n. node_size + n) c.len.ensures) (c.in_err-node.ensures.block s.slab l.zone.slab)
+returns-in_err-node-clause-block g c s l none = ap (λ (r : Option Block). granted_offset r) c.from_residual.ensures ∙ given_size s _ c.args.key.now _ (ap (λ n. node_size + n) c.len.ensures) (c.in_err-node.ensures.block s.slab l.zone.slab)
 
 pub returns-in_err-node-clause-laid : goal.returns-in_err-node-clause-laid
 returns-in_err-node-clause-laid g c s l none =

@@ -2,7 +2,7 @@ use Rattle.std.proofs.Common.{◌≡◌, ◌++◌, false, length}
 use Rattle.directive_text.specs.Internals.Tokens.{first_fault}
 use Rattle.directive_text.specs.Internals.Tokens.{token_marks}
 use Rattle.directive_text.specs.Internals.Lexemes.{tokens_of}
-use Rattle.directive_text.specs.Internals.Steps.{ahead}
+use Rattle.directive_text.specs.Internals.ScanSteps.{ahead}
 use Rattle.directive_text.specs.Internals.Tokens.{fault_of}
 use Rattle.directive_text.proofs.reader.read.Given as goal
 

@@ -1,6 +1,6 @@
 use Rattle.std.proofs.Common.{ℕ, ◌-◌, ◌∙◌, sym, true, false, List, arith, rules}
 use Rattle.peer_zone.specs.declared.state.PeerRecord.{PeerRecord}
-use Rattle.peer_zone.specs.Steps.{IsChain}
+use Rattle.peer_zone.specs.CallSteps.{IsChain}
 use Rattle.peer_zone.proofs.RoundLemmas.{Visits, chain-room, chain-rest, chain-fits, light-fits, count-does}
 use Rattle.peer_zone.proofs.rounds.+count_taking.Goals as goal
 

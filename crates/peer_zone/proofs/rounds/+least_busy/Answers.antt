@@ -1,6 +1,6 @@
 use Rattle.std.proofs.Common.{ℕ, ◌-◌, List, arith, rules}
 use Rattle.peer_zone.specs.declared.state.PeerRecord.{PeerRecord}
-use Rattle.peer_zone.specs.Steps.{IsChain}
+use Rattle.peer_zone.specs.CallSteps.{IsChain}
 use Rattle.peer_zone.proofs.RoundLemmas.{Visits, chain-room, chain-rest, chain-fits, light-fits, least-does}
 use Rattle.peer_zone.proofs.rounds.+least_busy.Goals as goal
 

@@ -4,7 +4,7 @@ use Rattle.std.specs.Prelude.{FitsSigned}
 use Rattle.std.proofs.lemmas.Int.{to_z-of_z}
 use Rattle.peer_zone.specs.declared.state.PeerRecord.{PeerRecord}
 use Rattle.peer_zone.specs.declared.numbers.PeerNumbers.{PeerNumbers}
-use Rattle.peer_zone.specs.Steps.{IsChain}
+use Rattle.peer_zone.specs.CallSteps.{IsChain}
 use Rattle.peer_zone.proofs.RoundLemmas.{Visits, chain-room, chain-rest, chain-fits, light-fits, raise-skip, raise-take}
 use Rattle.peer_zone.proofs.rounds.+raise_all.Goals as goal
 

@@ -2,7 +2,7 @@ use Rattle.std.proofs.Common.{◌≡◌, [], ◌++◌, sym, ap, refl, ◌∙◌,
 use Rattle.std.specs.Prelude.{All}
 use Rattle.std.proofs.lemmas.List.{append-nil}
 use Rattle.crossbeam_queue.specs.Passes.{view}
-use Rattle.shared_zone.proofs.Steps.{ends, closes}
+use Rattle.shared_zone.proofs.RuleKept.{ends, closes}
 use Rattle.shared_zone.proofs.Lists.{all_mid, nil_list}
 use Rattle.shared_zone.proofs.Calls.{all_kept}
 use Rattle.shared_zone.proofs.zone.gather.Goals as goal

@@ -1,4 +1,4 @@
-use Rattle.shared_zone.proofs.Steps.{gives, gives_learns}
+use Rattle.shared_zone.proofs.RuleKept.{gives, gives_learns}
 use Rattle.shared_zone.proofs.zone.give.Goals as goal
 
 pub push_as-requires-clause-rule : goal.push_as-requires-clause-rule

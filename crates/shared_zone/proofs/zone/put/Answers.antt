@@ -1,4 +1,4 @@
-use Rattle.shared_zone.proofs.Steps.{opens_at, opens_learns_at}
+use Rattle.shared_zone.proofs.RuleKept.{opens_at, opens_learns_at}
 use Rattle.shared_zone.proofs.zone.put.Goals as goal
 
 pub push_as-requires-clause-rule : goal.push_as-requires-clause-rule

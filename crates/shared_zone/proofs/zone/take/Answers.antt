@@ -1,5 +1,5 @@
 use Rattle.std.proofs.Common.{ap, ◌∙◌}
-use Rattle.shared_zone.proofs.Steps.{takes}
+use Rattle.shared_zone.proofs.RuleKept.{takes}
 use Rattle.shared_zone.proofs.zone.take.Goals as goal
 
 pub try_pop_as-requires-clause-rule : goal.try_pop_as-requires-clause-rule

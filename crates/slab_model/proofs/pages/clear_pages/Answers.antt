@@ -1,6 +1,6 @@
 use Rattle.std.proofs.Common.{◌+◌, ◌-◌, sym, ◌∙◌, arith}
 use Rattle.slab_model.specs.declared.page.PageState.TheVariants.{Free}
-use Rattle.slab_model.proofs.Steps.{fill_step}
+use Rattle.slab_model.proofs.PageLoops.{fill_step}
 use Rattle.slab_model.proofs.pages.clear_pages.Goals as goal
 
 pub loop-page-preserved : goal.loop-page-preserved

@@ -2,7 +2,7 @@ use Rattle.std.proofs.Common.{[], ap, subst, ◌∙◌, arith}
 use Rattle.slab_model.specs.declared.shape.Shape.{Shape}
 use Rattle.slab_pages.specs.Places.{bitmap_words}
 use Rattle.slab_pool.specs.Bits.{IsBitsWord, HasBits}
-use Rattle.slab_pool.specs.Steps.{ChangesBits, SetsBits}
+use Rattle.slab_pool.specs.PoolSteps.{ChangesBits, SetsBits}
 use Rattle.slab_pool.proofs.ListLemmas.{keeps-then}
 use Rattle.slab_pool.proofs.BitSteps.{changes-both, begun-more, begun-all}
 use Rattle.slab_pool.proofs.bits.begin_bits.Goals as goal

@@ -1,4 +1,4 @@
-use Rattle.slab_pool.specs.Steps.{KeepsRuns, ChangesBits}
+use Rattle.slab_pool.specs.PoolSteps.{KeepsRuns, ChangesBits}
 use Rattle.slab_pool.proofs.BitSteps.{Begun}
 use Rattle.slab_pool.proofs.bits.begin_bits.Given as goal
 

@@ -2,7 +2,7 @@ use Rattle.std.proofs.Common.{ℕ, List, Some, sym, subst}
 use Rattle.slab_model.specs.State.{list_of}
 use Rattle.slab_model.specs.Grant.{grant_from_list}
 use Rattle.slab_model.specs.Inside.{offset_of}
-use Rattle.slab_pool.specs.Steps.{Answers}
+use Rattle.slab_pool.specs.PoolSteps.{Answers}
 use Rattle.slab_pool.proofs.ClassGrants.{pool-list}
 use Rattle.slab_pool.proofs.grants.grant_in_class.Goals as goal
 

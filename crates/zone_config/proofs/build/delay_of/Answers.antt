@@ -1,5 +1,5 @@
 use Rattle.std.proofs.Common.{false}
-use Rattle.zone_config.proofs.Steps.{delay_more}
+use Rattle.zone_config.proofs.NextPlace.{delay_more}
 use Rattle.zone_config.proofs.build.delay_of.Goals as goal
 
 pub loop-word-preserved : goal.loop-word-preserved

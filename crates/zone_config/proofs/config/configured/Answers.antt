@@ -2,7 +2,7 @@ use Rattle.std.proofs.Common.{List, map, sym, ◌∙◌, ap}
 use Rattle.std.specs.List.{filter_map}
 use Rattle.zone_config.specs.declared.data.ZoneSpec.{ZoneSpec}
 use Rattle.zone_config.specs.declared.data.Upstream.{Upstream}
-use Rattle.config_rules.specs.Places.{places_of}
+use Rattle.config_rules.specs.InOrder.{places_of}
 use Rattle.config_rules.specs.Views.{place_now}
 use Rattle.zone_config.specs.Configuration.{location_at, server_among, upstream_of, upstreams_of}
 use Rattle.zone_config.proofs.Outlined.{outlined_locations, outlined_server, outlined_upstreams}

@@ -1,6 +1,6 @@
 use Rattle.std.proofs.Common.{◌≡◌, ◌++◌, ◌+◌, ◌≤◌, length, map, min}
 use Rattle.std.specs.List.{count_by, filter_map}
-use Rattle.config_rules.specs.Places.{places_of}
+use Rattle.config_rules.specs.InOrder.{places_of}
 use Rattle.config_rules.specs.Views.{place_now}
 use Rattle.zone_config.specs.Configuration.{is_passed, passed_among, zone_at}
 use Rattle.zone_config.specs.Outline.{if_level, if_upstream}

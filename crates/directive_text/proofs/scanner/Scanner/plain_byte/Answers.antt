@@ -1,7 +1,7 @@
 use Rattle.std.proofs.Common.{[], ◌∷◌, ◌||◌, ap, ◌∙◌}
 use Rattle.std.specs.Prelude.{◌==◌}
 use Rattle.directive_text.specs.Internals.Lexemes.{kept, plain}
-use Rattle.directive_text.proofs.Places.{kept_kept, pass-backslash, pass-plain}
+use Rattle.directive_text.proofs.TextPlaces.{kept_kept, pass-backslash, pass-plain}
 use Rattle.directive_text.proofs.scanner.Scanner.plain_byte.Goals as goal
 
 pub returns-then-byte-eq92-clause-goes_on : goal.returns-then-byte-eq92-clause-goes_on

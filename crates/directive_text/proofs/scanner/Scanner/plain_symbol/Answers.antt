@@ -1,6 +1,6 @@
 use Rattle.std.proofs.Common.{ap, sym, ◌∙◌, false}
 use Rattle.directive_text.specs.Internals.Lexemes.{kept, plain}
-use Rattle.directive_text.proofs.Places.{word-plain}
+use Rattle.directive_text.proofs.TextPlaces.{word-plain}
 use Rattle.directive_text.proofs.scanner.Scanner.plain_symbol.Goals as goal
 
 pub returns-clause-first : goal.returns-clause-first

@@ -1,6 +1,6 @@
 use Rattle.std.proofs.Common.{ap, sym, ◌∙◌}
 use Rattle.directive_text.specs.Internals.Lexemes.{kept}
-use Rattle.directive_text.proofs.Places.{plain-end-at}
+use Rattle.directive_text.proofs.TextPlaces.{plain-end-at}
 use Rattle.directive_text.proofs.scanner.Scanner.plain_word.Goals as goal
 
 pub returns-then-ends_plain-clause-whole : goal.returns-then-ends_plain-clause-whole

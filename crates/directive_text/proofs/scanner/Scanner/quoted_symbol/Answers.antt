@@ -1,6 +1,6 @@
 use Rattle.std.proofs.Common.{ap, sym, ◌∙◌}
 use Rattle.directive_text.specs.Internals.Lexemes.{kept, quoted}
-use Rattle.directive_text.proofs.Places.{word-quoted}
+use Rattle.directive_text.proofs.TextPlaces.{word-quoted}
 use Rattle.directive_text.proofs.scanner.Scanner.quoted_symbol.Goals as goal
 
 pub returns-clause-first : goal.returns-clause-first

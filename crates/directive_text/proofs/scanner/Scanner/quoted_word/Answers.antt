@@ -1,6 +1,6 @@
 use Rattle.std.proofs.Common.{ap, ◌∙◌, arith}
 use Rattle.directive_text.specs.Internals.Lexemes.{kept}
-use Rattle.directive_text.proofs.Places.{length-next, pass-quoted_backslash, pass-quote}
+use Rattle.directive_text.proofs.TextPlaces.{length-next, pass-quoted_backslash, pass-quote}
 use Rattle.directive_text.proofs.scanner.Scanner.quoted_word.Goals as goal
 
 pub loop-byte-preserved-in-Continue-1 : goal.loop-byte-preserved-in-Continue-1

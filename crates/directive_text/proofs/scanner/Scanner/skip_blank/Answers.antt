@@ -1,5 +1,5 @@
 use Rattle.std.proofs.Common.{◌∙◌, arith}
-use Rattle.directive_text.proofs.Places.{length-next, pass-hash}
+use Rattle.directive_text.proofs.TextPlaces.{length-next, pass-hash}
 use Rattle.directive_text.proofs.scanner.Scanner.skip_blank.Goals as goal
 
 pub loop-byte-preserved-then-byte-eq35 : goal.loop-byte-preserved-then-byte-eq35

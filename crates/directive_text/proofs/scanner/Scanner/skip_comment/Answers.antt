@@ -1,5 +1,5 @@
 use Rattle.std.proofs.lemmas.List.{take_rest}
-use Rattle.directive_text.proofs.Places.{comment_passed}
+use Rattle.directive_text.proofs.TextPlaces.{comment_passed}
 use Rattle.directive_text.proofs.scanner.Scanner.skip_comment.Goals as goal
 
 pub returns-clause-same : goal.returns-clause-same

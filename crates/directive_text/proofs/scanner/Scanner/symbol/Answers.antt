@@ -1,5 +1,5 @@
 use Rattle.std.proofs.Common.{rules}
-use Rattle.directive_text.proofs.Places.{inside-plain, mark-semicolon, mark-opening, mark-closing}
+use Rattle.directive_text.proofs.TextPlaces.{inside-plain, mark-semicolon, mark-opening, mark-closing}
 use Rattle.directive_text.proofs.scanner.Scanner.symbol.Goals.{in-59, in-123, in-125}
 use Rattle.directive_text.proofs.scanner.Scanner.symbol.Goals as goal
 

@@ -1,6 +1,6 @@
 use Rattle.std.proofs.Common.{ap, ◌∙◌}
 use Rattle.crossbeam_queue.specs.Passes.{view}
-use Rattle.shared_zone.proofs.Steps.{meets, meets_learns}
+use Rattle.shared_zone.proofs.RuleKept.{meets, meets_learns}
 use Rattle.shared_zone.proofs.Calls.{met_begins}
 use Rattle.shared_zone.proofs.zone.SharedZone.meet.Goals as goal
 

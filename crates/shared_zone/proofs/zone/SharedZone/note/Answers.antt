@@ -1,4 +1,4 @@
-use Rattle.shared_zone.proofs.Steps.{notes}
+use Rattle.shared_zone.proofs.RuleKept.{notes}
 use Rattle.shared_zone.proofs.zone.SharedZone.note.Goals as goal
 
 pub another-requires-clause-rule : goal.another-requires-clause-rule

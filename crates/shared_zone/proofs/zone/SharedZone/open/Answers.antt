@@ -1,7 +1,7 @@
 use Rattle.std.proofs.Common.{◌+◌, [], sym, ap, ◌∙◌, arith}
 use Rattle.std.specs.Prelude.{option_map}
 use Rattle.crossbeam_queue.specs.Passes.{view}
-use Rattle.shared_zone.proofs.Steps.{makes}
+use Rattle.shared_zone.proofs.RuleKept.{makes}
 use Rattle.shared_zone.proofs.Calls.{begins_of}
 use Rattle.shared_zone.proofs.Lists.{get_more}
 use Rattle.shared_zone.proofs.zone.SharedZone.open.Goals as goal

@@ -9,7 +9,7 @@ use Rattle.zone_config.specs.declared.data.Level.{Level}
 use Rattle.zone_config.specs.declared.data.Upstream.{Upstream}
 use Rattle.config_rules.specs.declared.earlier.Earlier.{Earlier}
 use Rattle.config_rules.specs.declared.earlier.ZoneNames.{ZoneNames}
-use Rattle.config_rules.specs.Places.{Place, kind_at}
+use Rattle.config_rules.specs.InOrder.{Place, kind_at}
 use Rattle.config_rules.specs.Rules.{Fault, fault_at, first_fault, is_server, noted, nothing, or_fault, without_server}
 use Rattle.std.proofs.lemmas.List.{take_more}
 use Rattle.zone_config.specs.Configuration.{Delay, delay_behind, delay_with, level_of, server_among, server_at, server_if}

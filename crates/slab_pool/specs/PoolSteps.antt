@@ -65,21 +65,21 @@ pub record SetsBits (shape : Shape) (class page j v : ℕ) (old new : List ℕ) 
   pub shift : (kind_of shape class ≡ small → HasShift small old page class) → HasShift (kind_of shape class) new page class
 
 -- no word changed but the links of these pages and of this one, and where the head of the class's list points
-pub record ChangesLinks (class page : ℕ) (listed : List ℕ) (old new : List ℕ) : Type 0 where
+pub record RelinksPages (class page : ℕ) (listed : List ℕ) (old new : List ℕ) : Type 0 where
   pub same_length : length new ≡ length old
   pub others : (w : ℕ) → w ≢ head_word class + 1 → ((q : ℕ) → (q ≡ page) ⊎ In q listed → (w ≢ descriptor_word q + 1) × (w ≢ descriptor_word q + 2)) → slice_index new w ≡ slice_index old w
 
 -- the page left the class's list, and its descriptor is that of a page in no list
-pub record Unlinks (shape : Shape) (class page : ℕ) (listed : List ℕ) (old new : List ℕ) : Type 0 where
+pub record UnlinksPage (shape : Shape) (class page : ℕ) (listed : List ℕ) (old new : List ℕ) : Type 0 where
   pub linked : Linked new (class_head class) (type_of (kind_of shape class)) (class_head class) (without page listed)
   pub next : next_at new (descriptor page) ≡ 0
   pub prev : prev_at new (descriptor page) ≡ type_of (kind_of shape class)
-  pub changes : ChangesLinks class page listed old new
+  pub changes : RelinksPages class page listed old new
 
 -- the page came to the head of the class's list
 pub record Pushes (shape : Shape) (class page : ℕ) (listed : List ℕ) (old new : List ℕ) : Type 0 where
   pub linked : Linked new (class_head class) (type_of (kind_of shape class)) (class_head class) (page ∷ listed)
-  pub changes : ChangesLinks class page listed old new
+  pub changes : RelinksPages class page listed old new
 
 -- no word past the descriptors changed but for the bitmap of the page, and neither did the words that name the context and the name block
 pub record KeepsBehind (shape : Shape) (class page : ℕ) (old new : List ℕ) : Type 0 where
@@ -102,7 +102,7 @@ pub record IsFirstUnused (shape : Shape) (class from : ℕ) (used : List ℕ) (r
 -- once this index is used too, the page can grant another block, and no word changed; or all its blocks are used, and it left the class's list
 pub data LeavesIfFull (shape : Shape) (class page index : ℕ) (used listed : List ℕ) (old new : List ℕ) : Type 0 where
   stays : (k : ℕ) → index < k → k < blocks_in_page shape class → is_member k used ≡ false → new ≡ old → LeavesIfFull shape class page index used listed old new
-  leaves : ((k : ℕ) → index < k → k < blocks_in_page shape class → is_member k used ≡ true) → Unlinks shape class page listed old new → LeavesIfFull shape class page index used listed old new
+  leaves : ((k : ℕ) → index < k → k < blocks_in_page shape class → is_member k used ≡ true) → UnlinksPage shape class page listed old new → LeavesIfFull shape class page index used listed old new
 
 -- ---- a whole grant or return
 
@@ -128,7 +128,7 @@ pub record BeginsPage (slab : Slab) (class page : ℕ) (new : Image) : Type 0 wh
 -- ---- a block of a page that came back
 
 -- from the words `before`, which lay out the slab, only the bit of this used index was cleared
-pub record IsCleared (before : Image) (slab : Slab) (class page : ℕ) (used : List ℕ) (index : ℕ) (now : Image) : Type 0 where
+pub record HasBitCleared (before : Image) (slab : Slab) (class page : ℕ) (used : List ℕ) (index : ℕ) (now : Image) : Type 0 where
   pub laid : LaysPool before slab
   pub is : page_at slab.pages page ≡ Class class used
   pub member : is_member index used ≡ true

@@ -4,7 +4,7 @@ use Rattle.std.specs.Prelude.{◌==◌, ◌⊎◌, if◌then◌else◌}
 use Rattle.std.proofs.lemmas.List.{get_or-drop}
 use Rattle.std.proofs.lemmas.Bool.{ne_eqb, eqb-true}
 use Rattle.directive_text.specs.Bytes.{is_blank, is_quote, below, ends_plain}
-use Rattle.directive_text.specs.Internals.Steps.{Passes}
+use Rattle.directive_text.specs.Internals.ScanSteps.{Passes}
 use Rattle.directive_text.specs.Internals.Lexemes.{Token, word, semicolon, opening, closing, Rest, kept, ends, word_at, followed, between, comment, plain, plain_pair, quoted, quoted_pair}
 
 -- bytes in front of bytes in front
