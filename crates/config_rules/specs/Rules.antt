@@ -23,6 +23,7 @@ arguments_at p = meanings (kind_at p) (arguments_of p.directive)
 abbrev pub behind_space : List ℕ → List ℕ
 behind_space w = 32 ∷ w
 
+-- the name of a location: its words, with a blank between them
 abbrev pub location_name : List (List ℕ) → List ℕ
 location_name [] = []
 location_name (w ∷ ws) = w ++ flat_map behind_space ws
@@ -45,6 +46,7 @@ abbrev pub name_if_location : Kind → Directive → Option (List ℕ)
 name_if_location Location d = Some (location_name (arguments_of d))
 name_if_location _ d = None
 
+-- the name of an upstream block
 abbrev pub name_if_upstream : Kind → Directive → Option (List ℕ)
 name_if_upstream Upstream d = Some (first_of (arguments_of d))
 name_if_upstream _ d = None
@@ -77,6 +79,7 @@ abbrev pub names_if_req : Kind → List Argument → List (List ℕ)
 names_if_req ReqZone args = filter_map declared_name args
 names_if_req _ args = []
 
+-- the names of the connection zones that a directive declares
 abbrev pub names_if_conn : Kind → List Argument → List (List ℕ)
 names_if_conn ConnZone args = filter_map declared_name args
 names_if_conn _ args = []
@@ -85,9 +88,11 @@ names_if_conn _ args = []
 abbrev pub req_names : List Place → List (List ℕ)
 req_names ps = flat_map (λ (p : Place). names_if_req (kind_at p) (arguments_at p)) ps
 
+-- the names of the connection zones
 abbrev pub conn_names : List Place → List (List ℕ)
 conn_names ps = flat_map (λ (p : Place). names_if_conn (kind_at p) (arguments_at p)) ps
 
+-- the names of both kinds
 abbrev pub zones_named : List Place → ZoneNames
 zones_named ps = record { req = req_names ps; conn = conn_names ps }
 
@@ -108,6 +113,7 @@ seen_at text e p = record { text = text; earlier = e; kind = kind_at p; argument
 abbrev pub is_server_block : Directive → Bool
 is_server_block d = is_called (codes "server") d && has_block d
 
+-- a `server` block of `http` behind another one
 abbrev pub second_server : Kind → Directive → List Directive → Bool
 second_server Server d before = has_block d && list_any is_server_block before
 second_server _ d before = false
@@ -165,9 +171,11 @@ has_bad_rate _ = false
 abbrev pub is_name : List ℕ → Bool
 is_name w = nat_le 1 (length w) && nat_le (length w) 255
 
+-- `on` or `off`
 abbrev pub is_switch : List ℕ → Bool
 is_switch w = is_same w (codes "on") || is_same w (codes "off")
 
+-- an argument whose value is outside its range
 abbrev pub is_out_of_range : Argument → Bool
 is_out_of_range (Zone name size) = not (is_name name)
 is_out_of_range (Name name) = not (is_name name)
@@ -182,6 +190,7 @@ is_out_of_range _ = false
 abbrev pub uses_one_of : List (List ℕ) → Argument → Bool
 uses_one_of names a = option_map_or (λ name. list_any (is_same name) names) (used_name a) false
 
+-- a limit of a zone that the text doesn't declare
 abbrev pub names_no_zone : ZoneNames → Kind → List Argument → Bool
 names_no_zone text LimitReq args = not (list_any (uses_one_of text.req) args)
 names_no_zone text LimitConn args = not (list_any (uses_one_of text.conn) args)
@@ -230,16 +239,20 @@ parameters _ words = []
 abbrev pub is_delay : List ℕ → Bool
 is_delay name = is_same name (codes "delay") || is_same name (codes "nodelay")
 
+-- a word is the parameter of this name
 abbrev pub is_parameter : List ℕ → List ℕ → Bool
 is_parameter name w = is_same name (parameter_name w)
 
+-- a parameter that stands among these words again; of `delay` and `nodelay` the later one counts
 abbrev pub is_repeated : List ℕ → List (List ℕ) → Bool
 is_repeated w ws = not (is_delay (parameter_name w)) && list_any (is_parameter (parameter_name w)) ws
 
+-- one of these parameters stands there twice
 abbrev pub has_repeats : List (List ℕ) → Bool
 has_repeats [] = false
 has_repeats (w ∷ ws) = is_repeated w ws || has_repeats ws
 
+-- a directive, a parameter or a limit of a zone that stands there twice
 abbrev pub is_twice : Kind → List Argument → Place → Bool
 is_twice k args p =
     is_again k p.directive p.before
@@ -250,6 +263,7 @@ is_twice k args p =
 abbrev pub is_backup_word : List ℕ → Bool
 is_backup_word w = is_same w (codes "backup")
 
+-- a server with the word `backup`
 abbrev pub is_backup : Directive → Bool
 is_backup d = list_any is_backup_word (behind_first (arguments_of d))
 
@@ -257,6 +271,7 @@ is_backup d = list_any is_backup_word (behind_first (arguments_of d))
 abbrev pub is_in_list_of : Bool → Directive → Bool
 is_in_list_of backup d = is_called (codes "server") d && (if is_backup d then backup else not backup)
 
+-- one zone, server or limit more than there may be
 abbrev pub is_too_many : Earlier → Kind → Directive → List Directive → Bool
 is_too_many e ReqZone d before = nat_le 16 (length e.zone_names)
 is_too_many e ConnZone d before = nat_le 16 (length e.zone_names)
@@ -283,6 +298,7 @@ is_bad_key _ = false
 abbrev pub is_primary : Directive → Bool
 is_primary d = is_called (codes "server") d && not (is_backup d)
 
+-- an upstream block without a server of the first list
 abbrev pub lacks_primary : Kind → Directive → Bool
 lacks_primary Upstream d = not (list_any is_primary (inner_of d))
 lacks_primary _ d = false

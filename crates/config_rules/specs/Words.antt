@@ -74,6 +74,7 @@ declared_by words = option_and_then declared_in (find (λ w. is_some (declared_i
 abbrev pub is_name_byte : ℕ → Bool
 is_name_byte b = not (b == 61)
 
+-- the name of a parameter: what stands before its first `=`
 abbrev pub parameter_name : List ℕ → List ℕ
 parameter_name w = take (prefix_len is_name_byte w) w
 
@@ -90,8 +91,10 @@ behind_scheme (b ∷ bs) = if starts_with nat_eq (b ∷ bs) (codes "://") then S
 abbrev pub is_host_byte : ℕ → Bool
 is_host_byte b = not (b == 47)
 
+-- what stands before the first `/`
 abbrev pub up_to_slash : List ℕ → List ℕ
 up_to_slash w = take (prefix_len is_host_byte w) w
 
+-- the host that an address names, where the address has a scheme
 abbrev pub host_of : List ℕ → Option (List ℕ)
 host_of w = option_map up_to_slash (behind_scheme w)

@@ -140,6 +140,7 @@ pub record Opens (name : List ℕ) (bytes : ℕ) : Type 0 where
   pub whole : IsWhole (opened_zone name bytes)
   pub quiet : IsOpened (opened_zone name bytes)
 
+-- each zone that can be opened is whole, and nothing is held in it
 abbrev pub OpenLaw : Type 0
 OpenLaw = (name : List ℕ) (bytes : ℕ) → IsName name → IsInLimits (shape_of bytes) → Opens name bytes
 

@@ -65,6 +65,7 @@ IsOpened s = (bytes : ℕ) × IsOpenedAs s bytes
 abbrev pub parts_of : ConnState → State Slab
 parts_of s = record { table = s.table; memory = s.slab }
 
+-- the state with this table and this memory
 abbrev pub with_parts : ConnState → State Slab → ConnState
 with_parts s parts = record { name = s.name; table = parts.table; slab = parts.memory; context = s.context; name_block = s.name_block }
 
@@ -129,6 +130,7 @@ abbrev pub IsReadyAt : List ConnEntry → ConnCall → Type 0
 IsReadyAt table (Open key limit) = IsKey key × IsCount limit
 IsReadyAt table (Close at) = 0 < count_at at table
 
+-- the state holds counts within the limit, and the call can be made in it
 pub record Ready (s : ConnState) (call : ConnCall) : Type 0 where
   pub counts : All (λ (entry : ConnEntry). IsCount entry.count) s.table
   pub asked : IsReadyAt s.table call
@@ -147,6 +149,7 @@ CanClose (AtLimit count) = ⊥
 CanClose NoRoom = ⊥
 CanClose (Closed count) = count < greatest_limit
 
+-- the replies that a call can be given
 abbrev pub CanAnswer : ConnState → ConnCall → ConnReply → Type 0
 CanAnswer s (Open key limit) reply = CanOpen limit reply
 CanAnswer s (Close at) reply = CanClose reply

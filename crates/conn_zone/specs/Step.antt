@@ -34,6 +34,7 @@ after_grant key table (Some at) memory = (Opened at 1, record { table = new_entr
 abbrev pub open_missing : {S : Type 0} → BlockStore S → List ℕ → State S → ConnReply × State S
 open_missing store key state = let granted = store.grant state.memory (node_size + length key) in after_grant key state.table granted.0 granted.1
 
+-- an open, by the entry of its key, if any
 abbrev pub open_as : {S : Type 0} → BlockStore S → List ℕ → ℕ → State S → Option ConnEntry → ConnReply × State S
 open_as store key limit state None = open_missing store key state
 open_as store key limit state (Some entry) = open_found key limit state entry

@@ -21,6 +21,7 @@ abbrev pub zone_words : List ℕ → List ℕ → ℕ → ℕ → List ℕ
 zone_words name kind bytes page_shift =
     codes "zone " ++ coded name ++ kind ++ decimal bytes ++ codes " pages=" ++ decimal (pages_of (record { bytes = bytes; page_shift = page_shift })) ++ codes "\n"
 
+-- the line of a zone, by its kind
 abbrev pub zone_line : ZoneSpec → List ℕ
 zone_line (Req spec key) = zone_words spec.name (codes " req bytes=") spec.bytes spec.page_shift
 zone_line (Conn spec key) = zone_words spec.name (codes " conn bytes=") spec.bytes spec.page_shift
@@ -28,6 +29,7 @@ zone_line (Peer spec line) = zone_words spec.name (codes " peer bytes=") spec.by
 
 -- ---- upstreams
 
+-- the word of a method
 abbrev pub method_word : MethodData → List ℕ
 method_word Round = codes "round"
 method_word Least = codes "least"
@@ -59,6 +61,7 @@ location_line level = codes "location " ++ coded level.name ++ codes " " ++ limi
 
 -- ---- the text
 
+-- the text of a configuration: its zones, its upstreams and its levels
 abbrev pub check_text : Config → List ℕ
 check_text config =
     flat_map zone_line config.zones

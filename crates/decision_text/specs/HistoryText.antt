@@ -29,15 +29,18 @@ entry_line place worker asked answered = with_number (decimal place ++ codes " "
 
 -- ---- request zones
 
+-- whether the check is that of the last limit
 abbrev pub last_word : Bool → List ℕ
 last_word true = codes " 1"
 last_word false = codes " 0"
 
+-- a call of a request zone
 abbrev pub req_call_words : ReqCall → List ℕ
 req_call_words (Check key now burst last) = codes "check " ++ hex_bytes key ++ with_number (codes " ") now ++ with_number (codes " ") burst ++ last_word last
 req_call_words (Account at now) = with_number (codes "account ") at ++ with_number (codes " ") now
 req_call_words (Release at) = with_number (codes "release ") at
 
+-- what a request zone answers
 abbrev pub req_reply_words : ReqReply → List ℕ
 req_reply_words (req.Pass excess) = with_number (codes " ok ") excess
 req_reply_words (req.Again excess at) = with_number (codes " again ") excess ++ with_number (codes " ") at
@@ -48,10 +51,12 @@ req_reply_words req.Released = codes " released"
 
 -- ---- connection zones
 
+-- a call of a connection zone
 abbrev pub conn_call_words : ConnCall → List ℕ
 conn_call_words (Open key limit) = codes "open " ++ hex_bytes key ++ with_number (codes " ") limit
 conn_call_words (Close at) = with_number (codes "close ") at
 
+-- what a connection zone answers
 abbrev pub conn_reply_words : ConnReply → List ℕ
 conn_reply_words (conn.Opened at count) = with_number (codes " opened ") at ++ with_number (codes " ") count
 conn_reply_words (conn.AtLimit count) = with_number (codes " atlimit ") count
@@ -60,14 +65,17 @@ conn_reply_words (conn.Closed count) = with_number (codes " closed ") count
 
 -- ---- upstream zones
 
+-- how a try of a server ended
 abbrev pub end_word : Bool → List ℕ
 end_word true = codes " failed"
 end_word false = codes " good"
 
+-- a call of an upstream's zone
 abbrev pub peer_call_words : PeerCall → List ℕ
 peer_call_words (Choose list tried now) = with_number (codes "choose ") list ++ codes " " ++ hex_word tried ++ with_number (codes " ") now
 peer_call_words (Free list index failed now) = with_number (codes "free ") list ++ with_number (codes " ") index ++ end_word failed ++ with_number (codes " ") now
 
+-- what an upstream's zone answers
 abbrev pub peer_reply_words : PeerReply → List ℕ
 peer_reply_words (peer.Peer index) = with_number (codes " peer ") index
 peer_reply_words peer.NoPeer = codes " nopeer"

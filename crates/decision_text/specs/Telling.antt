@@ -21,14 +21,17 @@ use Rattle.decision_text.specs.HistoryText.{entry_line, req_call_words, req_repl
 
 -- ---- what the program's types hold: numbers of 64 bits, and keys of bytes
 
+-- a number of 64 bits
 abbrev pub IsNumber : ℕ → Type 0
 IsNumber n = n < 2 ^ 64
 
+-- the numbers and the key of a request zone's call
 abbrev pub HasReqNumbers : ReqCall → Type 0
 HasReqNumbers (Check key now burst last) = IsBytes key × IsNumber now × IsNumber burst
 HasReqNumbers (Account at now) = IsNumber at × IsNumber now
 HasReqNumbers (Release at) = IsNumber at
 
+-- the numbers of its replies
 abbrev pub AnswersReqNumbers : ReqReply → Type 0
 AnswersReqNumbers (req.Pass excess) = IsNumber excess
 AnswersReqNumbers (req.Again excess at) = IsNumber excess × IsNumber at
@@ -37,20 +40,24 @@ AnswersReqNumbers (req.NoRoom evicted) = IsNumber evicted
 AnswersReqNumbers (req.Accounted excess) = IsNumber excess
 AnswersReqNumbers req.Released = Unit {0}
 
+-- the numbers and the key of a connection zone's call
 abbrev pub HasConnNumbers : ConnCall → Type 0
 HasConnNumbers (Open key limit) = IsBytes key × IsNumber limit
 HasConnNumbers (Close at) = IsNumber at
 
+-- the numbers of its replies
 abbrev pub AnswersConnNumbers : ConnReply → Type 0
 AnswersConnNumbers (conn.Opened at count) = IsNumber at × IsNumber count
 AnswersConnNumbers (conn.AtLimit count) = IsNumber count
 AnswersConnNumbers conn.NoRoom = Unit {0}
 AnswersConnNumbers (conn.Closed count) = IsNumber count
 
+-- the numbers of an upstream zone's call
 abbrev pub HasPeerNumbers : PeerCall → Type 0
 HasPeerNumbers (Choose list tried now) = IsNumber list × IsNumber tried × IsNumber now
 HasPeerNumbers (Free list index failed now) = IsNumber list × IsNumber index × IsNumber now
 
+-- the numbers of its replies
 abbrev pub AnswersPeerNumbers : PeerReply → Type 0
 AnswersPeerNumbers (peer.Peer index) = IsNumber index
 AnswersPeerNumbers peer.NoPeer = Unit {0}
@@ -87,9 +94,11 @@ module _ {C R : Type 0} (HasNumbers : C → Type 0) (AnswersNumbers : R → Type
 abbrev pub ReqLineTellsItsCall : Type 0
 ReqLineTellsItsCall = LineTellsItsCall HasReqNumbers AnswersReqNumbers req_call_words req_reply_words
 
+-- two calls of a connection zone with one line are one call with one reply
 abbrev pub ConnLineTellsItsCall : Type 0
 ConnLineTellsItsCall = LineTellsItsCall HasConnNumbers AnswersConnNumbers conn_call_words conn_reply_words
 
+-- two calls of an upstream's zone with one line are one call with one reply
 abbrev pub PeerLineTellsItsCall : Type 0
 PeerLineTellsItsCall = LineTellsItsCall HasPeerNumbers AnswersPeerNumbers peer_call_words peer_reply_words
 

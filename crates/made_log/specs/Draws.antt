@@ -16,16 +16,19 @@ drawn generator = (pcg32 generator).0
 abbrev pub after_draw : Lcg → Lcg
 after_draw generator = (pcg32 generator).1
 
--- the four draws of a line
+-- the first of the four draws of a line
 abbrev pub first_draw : Lcg → ℕ
 first_draw generator = drawn generator
 
+-- the second
 abbrev pub second_draw : Lcg → ℕ
 second_draw generator = drawn (after_draw generator)
 
+-- the third
 abbrev pub third_draw : Lcg → ℕ
 third_draw generator = drawn (after_draw (after_draw generator))
 
+-- the fourth
 abbrev pub fourth_draw : Lcg → ℕ
 fourth_draw generator = drawn (after_draw (after_draw (after_draw generator)))
 

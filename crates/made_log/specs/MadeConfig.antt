@@ -46,11 +46,13 @@ back_data = record {
   backup = server (codes "10.1.0.3:80") 1 ∷ [];
 }
 
+-- the three zones, in this order
 abbrev pub made_zones : List ZoneSpec
 made_zones = one_zone ∷ addr_zone ∷ Peer back_data 5 ∷ []
 
 -- ---- levels
 
+-- the upstream `back`: two servers and a spare one, in turn by weight
 abbrev pub back_upstream : Upstream
 back_upstream = record { name = codes "back"; primary = 2; backup = 1; method = Round; zone = Some 2 }
 

@@ -28,10 +28,12 @@ abbrev pub is_pass : Decision → Bool
 is_pass (Started Pass req delay by excess conn peer) = true
 is_pass _ = false
 
+-- an open that a limit refuses
 abbrev pub is_limited : Decision → Bool
 is_limited (Started (Limited status) req delay by excess conn peer) = true
 is_limited _ = false
 
+-- an open for which there is no server
 abbrev pub is_gateway : Decision → Bool
 is_gateway (Started Gateway req delay by excess conn peer) = true
 is_gateway _ = false
@@ -60,16 +62,19 @@ req_line spec log =
     let s = run req.zone_after (req_opened spec) log in
     zone_line spec.name (codes " req ") (length log) (length s.table) (free_pages s.slab)
 
+-- the line of a connection zone
 abbrev pub conn_line : ConnData → List ConnEntry → List ℕ
 conn_line spec log =
     let s = run conn.zone_after (conn_opened spec) log in
     zone_line spec.name (codes " conn ") (length log) (length s.table) (free_pages s.slab)
 
+-- the line of an upstream's zone; its entries are the servers of both lists
 abbrev pub peer_line : PeerData → List PeerEntry → List ℕ
 peer_line spec log =
     let s = run peer.zone_after (peer_opened spec) log in
     zone_line spec.name (codes " peer ") (length log) (length s.primary + length s.backup) (free_pages s.slab)
 
+-- the line of a zone of any kind
 abbrev pub line_of : ZoneSpec → ZoneLog → List ℕ
 line_of (zone.Req spec key) (req_log log) = req_line spec log
 line_of (zone.Conn spec key) (conn_log log) = conn_line spec log

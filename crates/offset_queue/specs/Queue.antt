@@ -9,6 +9,7 @@ use Rattle.offset_queue.specs.declared.queue.Queue.{Queue}
 abbrev pub joint_offset : ℕ × ℕ → ℕ
 joint_offset a = a.0 + 8 * a.1
 
+-- The queue's own joint, in its head.
 abbrev pub head_joint : Queue → ℕ × ℕ
 head_joint q = (q.head.at, q.at)
 

@@ -15,9 +15,11 @@ use Rattle.offset_table.specs.declared.table.Table.{Table}
 abbrev pub request_form : Form
 request_form = record { len_at = 34; len_bytes = 2; key_at = 80 }
 
+-- the tree of the table's nodes, by their keys
 abbrev pub tree_of : Table → Tree
 tree_of t = record { context = t.context; form = request_form }
 
+-- the queue of the table's nodes, by their last use
 abbrev pub queue_of : Table → Queue
 queue_of t = record { head = t.context; at = 8 }
 

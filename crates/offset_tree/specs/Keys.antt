@@ -20,6 +20,7 @@ bytes_of m x j (suc n) = block_byte m x j ∷ bytes_of m x (j + 1) n
 abbrev pub key_len : Words → Form → ℕ → ℕ
 key_len m f x = word_at m x 4 / 2 ^ (8 * (f.len_at % 8)) % 2 ^ (8 * f.len_bytes)
 
+-- the key of a node
 abbrev pub key_of : Words → Form → ℕ → List ℕ
 key_of m f x = bytes_of m x f.key_at (key_len m f x)
 
@@ -27,9 +28,11 @@ key_of m f x = bytes_of m x f.key_at (key_len m f x)
 abbrev pub Rank : Type 0
 Rank = ℕ × List ℕ
 
+-- the order of ranks
 abbrev pub rank_cmp : Rank → Rank → Ordering
 rank_cmp a b = ordering_then (nat_cmp a.0 b.0) (key_order a.1 b.1)
 
+-- the rank of a node
 abbrev pub rank_of : Words → Form → ℕ → Rank
 rank_of m f x = (word_at m x 0, key_of m f x)
 

@@ -31,9 +31,11 @@ IsWhole s = AreWhole s.slab (requests_of (spec_of s)) s.blocks
 
 -- ---- which block is which
 
+-- the block of the upstream's context
 abbrev pub context_block : PeerState → ℕ
 context_block s = slice_index s.blocks 0
 
+-- the block of its name
 abbrev pub name_block : PeerState → ℕ
 name_block s = slice_index s.blocks 1
 
@@ -41,6 +43,7 @@ name_block s = slice_index s.blocks 1
 abbrev pub primary_block : PeerState → ℕ
 primary_block s = slice_index s.blocks 2
 
+-- the block of the second list's head
 abbrev pub backup_block : PeerState → ℕ
 backup_block s = slice_index (drop (length s.primary) (drop 3 s.blocks)) 0
 
@@ -48,6 +51,7 @@ backup_block s = slice_index (drop (length s.primary) (drop 3 s.blocks)) 0
 abbrev pub primary_records : PeerState → List ℕ
 primary_records s = take (length s.primary) (drop 3 s.blocks)
 
+-- the blocks of the second list's records and addresses
 abbrev pub backup_records : PeerState → List ℕ
 backup_records s = drop 1 (drop (length s.primary) (drop 3 s.blocks))
 

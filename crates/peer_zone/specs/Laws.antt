@@ -35,6 +35,7 @@ pub record IsNearest (index : ℕ) (p : PeerRecord) (other : ℕ) (q : PeerRecor
   pub greatest : (raised q).current ≤ℤ (raised p).current
   pub first : other < index → (raised q).current <ℤ (raised p).current
 
+-- no available server is nearer to its turn than the one that a round chooses
 abbrev pub NearestLaw : Type 0
 NearestLaw = (s : PeerState) (list tried now index : ℕ) (p : PeerRecord) → is_single s ≡ false → s.method ≡ Round → answer_of s (Choose list tried now) ≡ Peer index → peer_at (list_of s list) index ≡ Some p → (other : ℕ) (q : PeerRecord) → IsAvailable s list tried now other q → IsNearest index p other q
 

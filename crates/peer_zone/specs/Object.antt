@@ -22,6 +22,7 @@ is_single s = nat_eq (length s.primary) 1 && nat_eq (length s.backup) 0
 abbrev pub list_of : PeerState → ℕ → List PeerRecord
 list_of s list = if nat_eq list 0 then s.primary else s.backup
 
+-- the state with these records in list `list`
 abbrev pub with_list : PeerState → ℕ → List PeerRecord → PeerState
 with_list s list peers = if nat_eq list 0 then record s { primary = peers } else record s { backup = peers }
 
@@ -33,6 +34,7 @@ available s tried now = is_available (is_single s) tried now
 abbrev pub choice_of : PeerState → ℕ → ℕ → ℕ → Choice
 choice_of s list tried now = choose (is_single s) s.method (available s tried now) now (list_of s list)
 
+-- the reply of a choice
 abbrev pub reply_for : Option ℕ → PeerReply
 reply_for None = NoPeer
 reply_for (Some index) = Peer index

@@ -25,6 +25,7 @@ besides size = record { size = size; server = None }
 abbrev pub context_size : ℕ
 context_size = 64
 
+-- the bytes of a list's head
 abbrev pub list_size : ℕ
 list_size = 64
 
@@ -76,6 +77,7 @@ pool_of spec = fresh_slab (record { bytes = spec.bytes; page_shift = spec.page_s
 abbrev pub grants_of : PeerSpec → Granted
 grants_of spec = grant_all (pool_of spec) (requests_of spec)
 
+-- the server for which a block is asked, if any
 abbrev pub server_of : Request → Option ℕ
 server_of request = request.server
 

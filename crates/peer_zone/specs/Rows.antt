@@ -37,9 +37,11 @@ first_try = Choose 0 0 0
 
 -- ---- by weight
 
+-- servers of weights 5, 1 and 1
 abbrev pub weights_5_1_1 : PeerState
 weights_5_1_1 = opened_zone (in_32_kib Round (of_weight 5 ∷ of_weight 1 ∷ of_weight 1 ∷ []) [])
 
+-- the running weights of the first list
 abbrev pub currents_of : PeerState → List ℤ
 currents_of s = map (λ (p : PeerRecord). p.current) s.primary
 
@@ -57,6 +59,7 @@ repeated (suc times) replies = replies ++ repeated times replies
 abbrev pub TenCyclesRow : Type 0
 TenCyclesRow = answers_of weights_5_1_1 (replicate 70 first_try) ≡ repeated 10 (Peer 0 ∷ Peer 0 ∷ Peer 1 ∷ Peer 0 ∷ Peer 2 ∷ Peer 0 ∷ Peer 0 ∷ [])
 
+-- servers of weights 1, 2 and 3
 abbrev pub weights_1_2_3 : PeerState
 weights_1_2_3 = opened_zone (in_32_kib Round (of_weight 1 ∷ of_weight 2 ∷ of_weight 3 ∷ []) [])
 
@@ -84,6 +87,7 @@ TriedRow = answers_of weights_5_1_1 (Choose 0 1 0 ∷ Choose 0 3 0 ∷ Choose 0 
 
 -- ---- a failure and a backup
 
+-- one server, and one in the second list
 abbrev pub with_backup : PeerState
 with_backup = opened_zone (in_32_kib Round (of_weight 1 ∷ []) (of_weight 1 ∷ []))
 
@@ -95,6 +99,7 @@ failing_calls = Choose 0 0 0 ∷ Free 0 0 true 0 ∷ Choose 0 1 0 ∷ Choose 1 0
 abbrev pub fails_of : PeerState → List ℕ
 fails_of s = map (λ (p : PeerRecord). p.fails) s.primary
 
+-- when the servers of the first list were last tried after a failure
 abbrev pub checked_of : PeerState → List ℕ
 checked_of s = map (λ (p : PeerRecord). p.checked) s.primary
 
@@ -113,6 +118,7 @@ CheckedRow = (checked_of (zone_after with_backup (Choose 0 0 10)) ≡ 0 ∷ []) 
 abbrev pub is_down : Server
 is_down = record { address = 97 ∷ []; weight = 1; max_conns = 0; max_fails = 1; fail_timeout = 10; down = true }
 
+-- a server that is down is never chosen
 abbrev pub DownRow : Type 0
 DownRow = (answers_of (opened_zone (in_32_kib Round (is_down ∷ []) [])) (first_try ∷ []) ≡ NoPeer ∷ [])
     × (answers_of (opened_zone (in_32_kib Round (is_down ∷ of_weight 1 ∷ []) [])) (first_try ∷ first_try ∷ []) ≡ Peer 1 ∷ Peer 1 ∷ [])
@@ -133,6 +139,7 @@ TiesRow = answers_of (opened_zone (in_32_kib Least (of_weight 1 ∷ of_weight 1 
 
 -- ---- at most one connection
 
+-- a server that takes one connection at a time
 abbrev pub one_at_most : Server
 one_at_most = record { address = 97 ∷ []; weight = 1; max_conns = 1; max_fails = 1; fail_timeout = 10; down = false }
 

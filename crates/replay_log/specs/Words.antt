@@ -58,6 +58,7 @@ four_of _ = None
 abbrev pub octets_of : List ℕ → Option (List ℕ)
 octets_of word = four_of (map (number_of 255) (parts 46 word))
 
+-- the four octets of an address, or the kind of its fault
 abbrev pub address_of : List ℕ → Result (List ℕ) ℕ
 address_of word = or_kind (address_kind word) (octets_of word)
 

@@ -32,11 +32,13 @@ pub record RunsReq (spec : ReqData) (room : ℕ) (journal : Recorded ReqWords Re
   pub ran : HasRun req.IsOpened req_words.Lays req.answer_of req.zone_after req.Permits (req_opened spec) journal.object journal.log
   pub mine : HasCallersBelow 1 journal.log
 
+-- the journal of a connection zone that has run so far
 pub record RunsConn (spec : ConnData) (room : ℕ) (journal : Recorded conn_words.Zone ConnEntry) : Type 0 where
   pub room_is : journal.room ≡ room
   pub ran : HasRun conn.IsOpened conn_words.Lays conn.answer_of conn.zone_after conn.Permits (conn_opened spec) journal.object journal.log
   pub mine : HasCallersBelow 1 journal.log
 
+-- the journal of an upstream's zone that has run so far
 pub record RunsPeer (spec : PeerData) (room : ℕ) (journal : Recorded PeerWords PeerEntry) : Type 0 where
   pub room_is : journal.room ≡ room
   pub ran : HasRun opening.IsOpened peer_words.Lays peer.answer_of peer.zone_after peer.Permits (peer_opened spec) journal.object journal.log

@@ -34,9 +34,11 @@ use Rattle.zone_config.specs.declared.data.PeerData.{PeerData}
 abbrev pub ReqEntry : Type 0
 ReqEntry = Entry ReqWords ReqState ReqCall ReqReply
 
+-- an entry of a connection zone's journal
 abbrev pub ConnEntry : Type 0
 ConnEntry = Entry Zone ConnState ConnCall ConnReply
 
+-- an entry of the journal of an upstream's zone
 abbrev pub PeerEntry : Type 0
 PeerEntry = Entry PeerWords PeerState PeerCall PeerReply
 
@@ -52,9 +54,11 @@ pub data ZoneLog : Type 0 where
 abbrev pub req_opened : ReqData → ReqState
 req_opened spec = req.opened_zone spec.rate spec.name spec.bytes
 
+-- a connection zone's state when it is opened
 abbrev pub conn_opened : ConnData → ConnState
 conn_opened spec = conn.opened_zone spec.name spec.bytes
 
+-- the state of an upstream's zone when it is opened
 abbrev pub peer_opened : PeerData → PeerState
 peer_opened spec = opening.opened_zone (peer_spec spec)
 

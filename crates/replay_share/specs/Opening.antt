@@ -54,10 +54,12 @@ pub record IsNewReq (spec : ReqData) (zone : ReqWords) : Type 0 where
   pub quiet : req.IsOpened (req_opened spec)
   pub laid : req_words.Lays zone (req_opened spec)
 
+-- a connection zone as it is opened
 pub record IsNewConn (spec : ConnData) (zone : conn_words.Zone) : Type 0 where
   pub quiet : conn.IsOpened (conn_opened spec)
   pub laid : conn_words.Lays zone (conn_opened spec)
 
+-- an upstream's zone as it is opened
 pub record IsNewPeer (spec : PeerData) (zone : PeerWords) : Type 0 where
   pub quiet : opening.IsOpened (peer_opened spec)
   pub laid : peer_words.Lays zone (peer_opened spec)
@@ -72,9 +74,11 @@ OpensPeer spec line (Err NoMemory) = Unit {0}
 abbrev pub BeginsReq : ReqData → ℕ → Recorded ReqWords ReqEntry → Type 0
 BeginsReq spec room journal = RunsReq spec room journal × (journal.log ≡ [])
 
+-- the journal of a connection zone that was just opened
 abbrev pub BeginsConn : ConnData → ℕ → Recorded conn_words.Zone ConnEntry → Type 0
 BeginsConn spec room journal = RunsConn spec room journal × (journal.log ≡ [])
 
+-- the journal of an upstream's zone that was just opened, or the fault of its directive's line
 abbrev pub BeginsPeer : PeerData → ℕ → ℕ → Result (Recorded PeerWords PeerEntry) OpeningFault → Type 0
 BeginsPeer spec line room (Ok journal) = RunsPeer spec room journal × (journal.log ≡ []) × (opening.refused_server (peer_spec spec) ≡ None)
 BeginsPeer spec line room (Err (Refused at)) = IsSome (opening.refused_server (peer_spec spec)) × (at ≡ line)

@@ -14,9 +14,11 @@ pub record Decided : Type 0 where
   pub line : Line
   pub decision : Decision
 
+-- the line that was decided
 abbrev pub line_of : Decided → Line
 line_of d = d.line
 
+-- what was decided
 abbrev pub decision_of : Decided → Decision
 decision_of d = d.decision
 
@@ -24,6 +26,7 @@ decision_of d = d.decision
 abbrev pub goes_to : ℕ → ℕ → Line → Bool
 goes_to workers k line = nat_eq (line.conn % workers) k
 
+-- whether a decided line is one of worker `k`
 abbrev pub is_for : ℕ → ℕ → Decided → Bool
 is_for workers k d = goes_to workers k d.line
 

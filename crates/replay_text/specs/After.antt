@@ -18,8 +18,10 @@ use Rattle.replay_share.specs.Logs.{ReqEntry, ConnEntry, PeerEntry, req_opened, 
 abbrev pub IsReqAfter : ReqData → List ReqEntry → ReqWords → Type 0
 IsReqAfter spec log zone = req_words.Lays zone (run req.zone_after (req_opened spec) log)
 
+-- a connection zone after this history
 abbrev pub IsConnAfter : ConnData → List ConnEntry → conn_words.Zone → Type 0
 IsConnAfter spec log zone = conn_words.Lays zone (run conn.zone_after (conn_opened spec) log)
 
+-- an upstream's zone after this history
 abbrev pub IsPeerAfter : PeerData → List PeerEntry → PeerWords → Type 0
 IsPeerAfter spec log zone = peer_words.Lays zone (run peer.zone_after (peer_opened spec) log)

@@ -27,9 +27,11 @@ use Rattle.replay_text.specs.ReplayText.{decided_line, zone_text}
 abbrev pub LaysReqAfter : ReqData → List ReqEntry → List ℕ → Type 0
 LaysReqAfter spec log words = LaysImage words (run req.zone_after (req_opened spec) log)
 
+-- the words of a connection zone after this history
 abbrev pub LaysConnAfter : ConnData → List ConnEntry → List ℕ → Type 0
 LaysConnAfter spec log words = LaysWords words (run conn.zone_after (conn_opened spec) log)
 
+-- the words of an upstream's zone after this history
 abbrev pub LaysPeerAfter : PeerData → List PeerEntry → List ℕ → Type 0
 LaysPeerAfter spec log words = layout.LaysImage words (run peer.zone_after (peer_opened spec) log)
 

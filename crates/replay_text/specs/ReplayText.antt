@@ -40,9 +40,11 @@ lines_from line place (e ∷ es) = line place e ++ lines_from line (place + 1) e
 abbrev pub req_line : ℕ → ReqEntry → List ℕ
 req_line place e = entry_line place e.caller (req_call_words e.call) (req_reply_words e.reply)
 
+-- an entry of a connection zone's history
 abbrev pub conn_line : ℕ → ConnEntry → List ℕ
 conn_line place e = entry_line place e.caller (conn_call_words e.call) (conn_reply_words e.reply)
 
+-- an entry of the history of an upstream's zone
 abbrev pub peer_line : ℕ → PeerEntry → List ℕ
 peer_line place e = entry_line place e.caller (peer_call_words e.call) (peer_reply_words e.reply)
 
@@ -50,9 +52,11 @@ peer_line place e = entry_line place e.caller (peer_call_words e.call) (peer_rep
 abbrev pub tail_of : Slab → ℕ → List ℕ
 tail_of slab entries = tail_text (pages_in slab) (free_pages slab) entries slab.stats
 
+-- how full a request zone is
 abbrev pub req_tail : ReqState → List ℕ
 req_tail s = tail_of s.slab (length s.table)
 
+-- how full a connection zone is
 abbrev pub conn_tail : ConnState → List ℕ
 conn_tail s = tail_of s.slab (length s.table)
 
@@ -64,9 +68,11 @@ peer_tail s = tail_of s.slab (length s.primary + length s.backup)
 abbrev pub req_text : ReqData → List ReqEntry → List ℕ
 req_text spec log = zone_head spec.name (codes " req ") (length log) ++ lines_from req_line 1 log ++ req_tail (run req.zone_after (req_opened spec) log)
 
+-- the text of a connection zone's history
 abbrev pub conn_text : ConnData → List ConnEntry → List ℕ
 conn_text spec log = zone_head spec.name (codes " conn ") (length log) ++ lines_from conn_line 1 log ++ conn_tail (run conn.zone_after (conn_opened spec) log)
 
+-- the text of the history of an upstream's zone
 abbrev pub peer_text : PeerData → List PeerEntry → List ℕ
 peer_text spec log = zone_head spec.name (codes " peer ") (length log) ++ lines_from peer_line 1 log ++ peer_tail (run peer.zone_after (peer_opened spec) log)
 

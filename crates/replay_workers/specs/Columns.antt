@@ -49,9 +49,11 @@ pub record IsOpenedZone (rooms : List ℕ) (spec : ZoneSpec) (zone : Shared) (co
 abbrev pub IsOpenedReq : List ℕ → ReqData → Shared → List ZonePass → Type 0
 IsOpenedReq rooms spec shared column = (key : Expr) → IsOpenedZone rooms (zone.Req spec key) shared column
 
+-- the passes of a connection zone as it is opened
 abbrev pub IsOpenedConn : List ℕ → ConnData → Shared → List ZonePass → Type 0
 IsOpenedConn rooms spec shared column = (key : Expr) → IsOpenedZone rooms (zone.Conn spec key) shared column
 
+-- the passes of an upstream's zone as it is opened
 abbrev pub IsOpenedPeer : List ℕ → PeerData → Shared → List ZonePass → Type 0
 IsOpenedPeer rooms spec shared column = (line : ℕ) → IsOpenedZone rooms (zone.Peer spec line) shared column
 
@@ -87,10 +89,12 @@ abbrev pub IsReq : ZoneSpec → Type 0
 IsReq (zone.Req spec key) = Unit {0}
 IsReq _ = ⊥
 
+-- a connection zone
 abbrev pub IsConn : ZoneSpec → Type 0
 IsConn (zone.Conn spec key) = Unit {0}
 IsConn _ = ⊥
 
+-- an upstream's zone
 abbrev pub IsPeer : ZoneSpec → Type 0
 IsPeer (zone.Peer spec line) = Unit {0}
 IsPeer _ = ⊥

@@ -121,6 +121,7 @@ HasWorked task played = HasReplayed (AskedBy (place_of task played.number) playe
 abbrev pub number_of_row : Row → ℕ
 number_of_row row = row.number
 
+-- the number of the worker that played
 abbrev pub number_of_played : Played → ℕ
 number_of_played played = played.number
 
@@ -128,5 +129,6 @@ number_of_played played = played.number
 abbrev pub passes_of_row : Row → List ZonePass
 passes_of_row row = row.passes.items
 
+-- its passes of the zones
 abbrev pub passes_of_played : Played → List ZonePass
 passes_of_played played = played.passes.items

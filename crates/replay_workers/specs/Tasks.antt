@@ -8,6 +8,7 @@ use Rattle.replay_log.specs.declared.line.Line.{Line}
 use Rattle.replay_workers.specs.declared.passes.Shared.{Shared}
 use Rattle.replay_workers.specs.Passes.{Task, AreShared}
 
+-- what all workers share
 abbrev pub task_of : Config → List Line → ℕ → List Shared → List ℕ → Task
 task_of config lines workers zones rooms = record { config = config; lines = lines; workers = workers; zones = zones; rooms = rooms }
 

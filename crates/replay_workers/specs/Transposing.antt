@@ -12,6 +12,7 @@ abbrev pub filled : {X : Type 0} → List (List X) → List (List X) → List (L
 filled columns [] = columns
 filled columns (row ∷ rows) = filled (added columns row) rows
 
+-- what stands at this place of a row, if there is one
 abbrev pub at_place : {X : Type 0} → Option (List X) → ℕ → Option X
 at_place None j = None
 at_place (Some row) j = slice_get row j

@@ -20,6 +20,7 @@ abbrev pub forced_from : ℕ → ℕ → List ReqEntry → ℕ
 forced_from rate now [] = 0
 forced_from rate now (entry ∷ newer) = if nat_eq entry.count 0 then 1 + stale_leaving rate now 2 newer else 0
 
+-- how many entries leave when a block must be found
 abbrev pub forced_leaving : ℕ → ℕ → List ReqEntry → ℕ
 forced_leaving rate now table = forced_from rate now (reverse table)
 

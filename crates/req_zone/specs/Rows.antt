@@ -27,6 +27,7 @@ one rate bytes = opened_zone rate (codes "one") bytes
 abbrev pub keys_in : ReqState → List (List ℕ)
 keys_in s = map (λ (entry : ReqEntry). entry.key) s.table
 
+-- the blocks of the table's nodes
 abbrev pub nodes_in : ReqState → List ℕ
 nodes_in s = map (λ (entry : ReqEntry). entry.block) s.table
 
@@ -34,6 +35,7 @@ nodes_in s = map (λ (entry : ReqEntry). entry.block) s.table
 abbrev pub first_key : ReqState
 first_key = zone_after (one 1000 32768) (Check (codes "abcd") 0 0 true)
 
+-- the offsets of context, name and first node, and the free pages after them
 abbrev pub OpenRow : Type 0
 OpenRow = ((one 1000 32768).context ≡ 4096) × ((one 1000 32768).name_block ≡ 8224) × (nodes_in first_key ≡ 4224 ∷ []) × (free_pages first_key.slab ≡ 5)
 
@@ -41,6 +43,7 @@ OpenRow = ((one 1000 32768).context ≡ 4096) × ((one 1000 32768).name_block �
 abbrev pub hold_calls : List ReqCall
 hold_calls = Check (codes "abcd") 0 5000 false ∷ Check (codes "abcd") 500 5000 true ∷ Account 4224 500 ∷ []
 
+-- what the three calls are answered
 abbrev pub HoldRow : Type 0
 HoldRow = answers (one 1000 32768) hold_calls ≡ Again 0 4224 ∷ Pass 500 ∷ Accounted 1500 ∷ []
 

@@ -43,6 +43,7 @@ abbrev pub new_entry : List ℕ → ℕ → Bool → ℕ → ReqEntry
 new_entry key now true at = record { key = key; block = at; excess = 0; last = now; count = 0 }
 new_entry key now false at = record { key = key; block = at; excess = 0; last = 0; count = 1 }
 
+-- the reply to the check that made it
 abbrev pub new_reply : Bool → ℕ → ReqReply
 new_reply true at = Pass 0
 new_reply false at = Again 0 at
@@ -75,6 +76,7 @@ check_missing memory rate key now last state =
 
 -- ---- the calls
 
+-- a check, by the entry of its key, if any
 abbrev pub check_as : {S : Type 0} → BlockStore S → ℕ → List ℕ → ℕ → ℕ → Bool → State S → Option ReqEntry → ReqReply × State S
 check_as memory rate key now burst last state None = check_missing memory rate key now last state
 check_as memory rate key now burst last state (Some entry) =

@@ -65,8 +65,10 @@ peer_made z _ _ = None
 abbrev pub req_part : ℕ → List Exchange → List (Made ReqCall ReqReply)
 req_part z asked = filter_map (λ (e : Exchange). req_made z e.call e.reply) asked
 
+-- the calls of connection zone `z` among these, with their replies
 abbrev pub conn_part : ℕ → List Exchange → List (Made ConnCall ConnReply)
 conn_part z asked = filter_map (λ (e : Exchange). conn_made z e.call e.reply) asked
 
+-- the calls of upstream's zone `z` among these, with their replies
 abbrev pub peer_part : ℕ → List Exchange → List (Made PeerCall PeerReply)
 peer_part z asked = filter_map (λ (e : Exchange). peer_made z e.call e.reply) asked

@@ -26,11 +26,13 @@ use Rattle.request_script.specs.Drive.{Made, req_part, conn_part, peer_part}
 abbrev pub HoldsEntry : List (Made ReqCall ReqReply) → ℕ → Type 0
 HoldsEntry mine at = sum_by (λ (m : Made ReqCall ReqReply). req.back_by at m.call) mine < sum_by (λ (m : Made ReqCall ReqReply). req.given_by at m.reply) mine
 
+-- what a caller may ask of a request zone after these calls of its own
 abbrev pub ReqPermits : List (Made ReqCall ReqReply) → ReqCall → Type 0
 ReqPermits mine (Check key now burst last) = req.IsAsked key now burst
 ReqPermits mine (Account at now) = IsMoment now × HoldsEntry mine at
 ReqPermits mine (Release at) = HoldsEntry mine at
 
+-- what a caller may ask of a connection zone after these calls of its own
 abbrev pub ConnPermits : List (Made ConnCall ConnReply) → ConnCall → Type 0
 ConnPermits mine (Open key limit) = conn.IsKey key × conn.IsCount limit
 ConnPermits mine (Close at) = sum_by (λ (m : Made ConnCall ConnReply). conn.back_by at m.call) mine < sum_by (λ (m : Made ConnCall ConnReply). conn.given_by at m.reply) mine
@@ -40,6 +42,7 @@ abbrev pub HoldsPeer : List (Made PeerCall PeerReply) → ℕ → ℕ → Type 0
 HoldsPeer mine list index =
     sum_by (λ (m : Made PeerCall PeerReply). peer.back_by list index m.call) mine < sum_by (λ (m : Made PeerCall PeerReply). peer.given_by list index m.call m.reply) mine
 
+-- what a caller may ask of an upstream's zone after these calls of its own
 abbrev pub PeerPermits : List (Made PeerCall PeerReply) → PeerCall → Type 0
 PeerPermits mine (Choose list tried now) = (list < 2) × peer.IsMoment now
 PeerPermits mine (Free list index failed now) = (list < 2) × peer.IsMoment now × HoldsPeer mine list index

@@ -33,6 +33,7 @@ use Rattle.request_script.specs.RequestSteps.{turn_of}
 
 -- ---- what is configured: each zone has the client's address as its key
 
+-- keys are addresses
 abbrev pub by_address : Expr
 by_address = record { parts = Binary ∷ [] }
 
@@ -77,6 +78,7 @@ rows_config = record {
 
 -- ---- what happens
 
+-- the address 10.0.0.1
 abbrev pub client : List ℕ
 client = 10 ∷ 0 ∷ 0 ∷ 1 ∷ []
 

@@ -25,6 +25,7 @@ abbrev pub primary_in : Option ZoneSpec → List ServerData
 primary_in (Some (Peer spec line)) = spec.primary
 primary_in _ = []
 
+-- the servers of the second list
 abbrev pub backup_in : Option ZoneSpec → List ServerData
 backup_in (Some (Peer spec line)) = spec.backup
 backup_in _ = []

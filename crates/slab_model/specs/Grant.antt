@@ -92,6 +92,7 @@ abbrev pub is_empty : List ℕ → Bool
 is_empty [] = true
 is_empty (n ∷ ns) = false
 
+-- whether a block of this size and class, if any, can be granted
 abbrev pub fits_as : Slab → ℕ → Option ℕ → Bool
 fits_as slab size None = is_some (first_fit (pages_for slab.shape size) slab.runs)
 fits_as slab size (Some class) = not (is_empty (list_of slab class)) || is_some (first_fit 1 slab.runs)
@@ -100,6 +101,7 @@ fits_as slab size (Some class) = not (is_empty (list_of slab class)) || is_some 
 unfoldable pub fits : Slab → ℕ → Bool
 fits slab size = fits_as slab size (class_of slab.shape size)
 
+-- the bytes of the block that is granted for this size and class, if any
 abbrev pub block_bytes_as : Slab → ℕ → Option ℕ → ℕ
 block_bytes_as slab size None = page_size slab.shape * pages_for slab.shape size
 block_bytes_as slab size (Some class) = class_size class

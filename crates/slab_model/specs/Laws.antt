@@ -52,6 +52,7 @@ abbrev pub pages_taken_as : Slab → ℕ → Option ℕ → ℕ
 pages_taken_as slab size None = pages_for slab.shape size
 pages_taken_as slab size (Some class) = if is_empty (list_of slab class) then 1 else 0
 
+-- the pages that a grant takes from the free ones
 abbrev pub pages_taken : Slab → ℕ → ℕ
 pages_taken slab size = pages_taken_as slab size (class_of slab.shape size)
 

@@ -46,9 +46,11 @@ LargeRow = (grants_of (fresh 32768) (80 ∷ 26 ∷ 65615 ∷ []) ≡ Some 4096 �
 abbrev pub three_pages : Slab
 three_pages = after_grants (fresh 32768) (4096 ∷ 4096 ∷ 4096 ∷ [])
 
+-- a run of pages
 abbrev pub run_of : ℕ → ℕ → Run
 run_of first pages = record { first = first; pages = pages }
 
+-- runs of pages are granted from the front, and join when they come back
 abbrev pub RunsRow : Type 0
 RunsRow = (grants_of (fresh 32768) (4096 ∷ 4096 ∷ 4096 ∷ []) ≡ Some 4096 ∷ Some 8192 ∷ Some 12288 ∷ [])
     × ((after_returns three_pages (4096 ∷ [])).runs ≡ run_of 0 1 ∷ run_of 3 4 ∷ [])

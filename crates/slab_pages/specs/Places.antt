@@ -24,24 +24,27 @@ word_limit = greatest_zone / 8
 
 -- ---- the header, the 25 words of `ngx_slab_pool_t`
 
--- the lock, and the number of those that wait for it
+-- the lock
 abbrev pub lock_word : ℕ
 lock_word = 0
 
+-- how many wait for it
 abbrev pub wait_word : ℕ
 wait_word = 1
 
--- the least size of a block, and its binary logarithm
+-- the least size of a block
 abbrev pub min_size_word : ℕ
 min_size_word = 2
 
+-- the binary logarithm of that size
 abbrev pub min_shift_word : ℕ
 min_shift_word = 3
 
--- the byte offsets of the first descriptor and of the end of the last one
+-- the byte offset of the first descriptor
 abbrev pub pages_word : ℕ
 pages_word = 4
 
+-- the byte offset of the end of the last descriptor
 abbrev pub last_word : ℕ
 last_word = 5
 
@@ -57,10 +60,11 @@ stats_word = 9
 abbrev pub pfree_word : ℕ
 pfree_word = 10
 
--- the byte offsets of the first page and of the end of the zone
+-- the byte offset of the first page
 abbrev pub start_word : ℕ
 start_word = 11
 
+-- the byte offset of the end of the zone
 abbrev pub end_word : ℕ
 end_word = 12
 
@@ -72,10 +76,11 @@ mutex_word = 13
 abbrev pub log_ctx_word : ℕ
 log_ctx_word = 20
 
--- the byte that ends an empty text, and whether want of memory is logged
+-- the byte that ends an empty text
 abbrev pub zero_word : ℕ
 zero_word = 21
 
+-- whether a want of memory is logged
 abbrev pub log_nomem_word : ℕ
 log_nomem_word = 22
 
@@ -135,13 +140,15 @@ descriptor page = byte_of (descriptor_word page)
 abbrev pub IsDescriptorOffset : ℕ → Type 0
 IsDescriptorOffset o = (o ≡ free_head) ⊎ ((page : ℕ) × (o ≡ descriptor page))
 
--- the three words of the descriptor at a byte offset
+-- the word slab of the descriptor at a byte offset
 abbrev pub slab_at : List ℕ → ℕ → ℕ
 slab_at words o = slice_index words (o / 8)
 
+-- its word next
 abbrev pub next_at : List ℕ → ℕ → ℕ
 next_at words o = slice_index words (o / 8 + 1)
 
+-- its word prev
 abbrev pub prev_at : List ℕ → ℕ → ℕ
 prev_at words o = slice_index words (o / 8 + 2)
 

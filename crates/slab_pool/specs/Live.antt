@@ -37,6 +37,7 @@ is_used_at words shape page class index = nat_le (first_index shape class) index
 abbrev pub class_bytes : List ℕ → Shape → ℕ → ℕ → ℕ → ℕ
 class_bytes words shape page class place = if nat_eq (place % class_size class) 0 && is_used_at words shape page class (place / class_size class) then class_size class else 0
 
+-- the bytes of the live block that begins at this place of a page, 0 where none begins there
 abbrev pub bytes_in_page : List ℕ → Shape → ℕ → ℕ → ℕ
 bytes_in_page words shape page place = if nat_eq (page_type words page) 0 then run_bytes shape (slab_at words (descriptor page)) place else class_bytes words shape page (class_in words page) place
 

@@ -121,6 +121,7 @@ begun slab class page = record {
   stats = slice_set slab.stats class (count_grant (usable_blocks slab.shape class) (stat_of slab class));
 }
 
+-- the words lay out the slab with the new page
 pub record BeginsPage (slab : Slab) (class page : ℕ) (new : Image) : Type 0 where
   pub shape_is : slab.shape ≡ new.shape
   pub laid : LaysSlab new.words (begun slab class page)

@@ -61,6 +61,7 @@ abbrev pub IsReqZone : Option ZoneSpec → Type 0
 IsReqZone (Some (Req spec key)) = Unit {0}
 IsReqZone _ = ⊥
 
+-- a connection zone
 abbrev pub IsConnZone : Option ZoneSpec → Type 0
 IsConnZone (Some (Conn spec key)) = Unit {0}
 IsConnZone _ = ⊥

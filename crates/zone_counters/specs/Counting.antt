@@ -28,6 +28,7 @@ zero_counters places = record { counts = replicate places 0 }
 abbrev pub count_at : CounterState → ℕ → ℕ
 count_at s at = slice_index s.counts at
 
+-- what a call is answered
 abbrev pub reply_of : CounterState → CounterCall → CounterReply
 reply_of s (Raise at) = if nat_lt at (length s.counts) then Raised (count_at s at + 1) else NoCounter
 reply_of s (Lower at) = Lowered (count_at s at - 1)
@@ -36,12 +37,14 @@ reply_of s (Lower at) = Lowered (count_at s at - 1)
 abbrev pub with_count : CounterState → ℕ → ℕ → CounterState
 with_count s at count = record { counts = slice_set s.counts at count }
 
+-- the counters after a call
 abbrev pub state_after : CounterState → CounterCall → CounterState
 state_after s (Raise at) = if nat_lt at (length s.counts) then with_count s at (count_at s at + 1) else s
 state_after s (Lower at) = with_count s at (count_at s at - 1)
 
 -- ---- what callers are given and give back, by place
 
+-- once if the reply gives this counter to the caller
 abbrev pub given_by : ℕ → CounterCall → CounterReply → ℕ
 given_by at (Raise to) (Raised count) = if nat_eq to at then 1 else 0
 given_by at (Raise to) NoCounter = 0
@@ -52,6 +55,7 @@ given_by at (Lower to) reply = 0
 abbrev pub given : ℕ → Made → ℕ
 given at e = given_by at e.call e.reply
 
+-- once if the call gives this counter back
 abbrev pub back_by : ℕ → CounterCall → ℕ
 back_by at (Raise to) = 0
 back_by at (Lower to) = if nat_eq to at then 1 else 0
@@ -65,10 +69,12 @@ abbrev pub Permits : List Made → CounterCall → Type 0
 Permits mine (Raise at) = Unit {0}
 Permits mine (Lower at) = sum_by (back at) mine < sum_by (given at) mine
 
+-- a counter below 2^32 may rise, one above 0 may fall
 abbrev pub Ready : CounterState → CounterCall → Type 0
 Ready s (Raise at) = count_at s at < 2 ^ 32
 Ready s (Lower at) = 0 < count_at s at
 
+-- the replies that a call can be given
 abbrev pub CanAnswer : CounterState → CounterCall → CounterReply → Type 0
 CanAnswer s (Raise at) (Raised count) = count ≤ 2 ^ 32
 CanAnswer s (Raise at) NoCounter = length s.counts ≤ at

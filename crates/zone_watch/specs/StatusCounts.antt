@@ -16,6 +16,7 @@ place_of_open Pass = 0
 place_of_open (Limited status) = 1
 place_of_open Gateway = 2
 
+-- the place of the count that a decision raises
 abbrev pub place_of : Decision → ℕ
 place_of (Started outcome req delay by excess conn peer) = place_of_open outcome
 place_of FailGateway = 2

@@ -156,6 +156,7 @@ plan_for (Some (image config log zone)) = image_plan config log zone
 plan_for (Some (made seed lines)) = made_plan seed lines
 plan_for (Some (on_workers config log workers words)) = replay_plan config log workers words
 
+-- the plan of these words
 abbrev pub plan_of : List (List ℕ) → Plan
 plan_of words = plan_for (command_of words)
 

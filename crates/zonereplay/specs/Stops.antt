@@ -16,6 +16,7 @@ status_of (Refused (Log line kind)) = status.LogFault
 status_of ReadFault = status.ReadFault
 status_of NoMemory = status.NoMemory
 
+-- the text of status 2
 abbrev pub usage : List ℕ
 usage = codes "usage: one RATE BURST SIZE LOG | check CONFIG | plain CONFIG LOG | replay CONFIG LOG WORKERS [words] | image CONFIG LOG ZONE | made SEED LINES\n"
 

@@ -4,6 +4,7 @@ use Rattle.zone_region.specs.Words.{Words}
 use Rattle.offset_tree.specs.Inside.Shape.{Shape, leaf, node, Path, top, step, blocks_of}
 use Rattle.offset_tree.specs.Inside.Links.{IsShape}
 
+-- whether a tree's top is red
 abbrev pub red_of : Shape → Bool
 red_of leaf = false
 red_of (node c l x r) = c
@@ -26,6 +27,7 @@ IsPathBalanced top h = Unit {0}
 IsPathBalanced (step s true x far up) h = (red_of far ≡ false) × IsBalanced far h × (wants_black up ≡ false) × IsPathBalanced up h
 IsPathBalanced (step s false x far up) h = IsBalanced far h × IsPathBalanced up (suc h)
 
+-- how many steps a path has
 abbrev pub depth_of : Path → ℕ
 depth_of top = 0
 depth_of (step s c x far up) = suc (depth_of up)

@@ -6,10 +6,12 @@ use Rattle.offset_tree.specs.declared.side.Side.TheVariants.{Left, Right}
 use Rattle.offset_tree.specs.Inside.Sides.{child_word, other_of}
 use Rattle.offset_tree.specs.Inside.Shape.{Shape, leaf, node, Path, top, step, hits}
 
+-- a colour as the byte that stands for it
 abbrev pub colour_value : Bool → ℕ
 colour_value true = 1
 colour_value false = 0
 
+-- the block has this colour
 abbrev pub IsColoured : Words → ℕ → Bool → Type 0
 IsColoured m x c = word_at m x 4 % 256 ≡ colour_value c
 

@@ -14,9 +14,11 @@ pub record Turn : Type 0 where
   pub child : ℕ
   pub outer : Shape
 
+-- the tree before the turn
 abbrev pub unturned : Turn → Side → ℕ → Shape
 unturned u s x = plug u.path (before_turn s u.red u.child_red u.near x u.inner u.child u.outer)
 
+-- the tree after the turn
 abbrev pub turned : Turn → Side → ℕ → Shape
 turned u s x = plug u.path (after_turn s u.red u.child_red u.near x u.inner u.child u.outer)
 
@@ -28,9 +30,11 @@ pub record Spot : Type 0 where
   pub near : Shape
   pub far : Shape
 
+-- the tree with this block at the spot
 abbrev pub shape_at : Spot → ℕ → Shape
 shape_at u x = plug u.path (branch u.side u.red u.near x u.far)
 
+-- the same, with the block in this colour
 abbrev pub recoloured : Spot → ℕ → Bool → Shape
 recoloured u x c = plug u.path (branch u.side c u.near x u.far)
 

@@ -12,6 +12,7 @@ pub record Seat : Type 0 where
   pub left : Shape
   pub right : Shape
 
+-- the tree with this block at the seat
 abbrev pub seated : Seat → ℕ → Shape
 seated u x = plug u.path (node u.red u.left x u.right)
 

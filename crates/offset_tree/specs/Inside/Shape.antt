@@ -51,5 +51,6 @@ hits_path z (step s c x far up) = one z x + hits z far + hits_path z up
 abbrev pub before_turn : Side → Bool → Bool → Shape → ℕ → Shape → ℕ → Shape → Shape
 before_turn s c d a x b y e = branch s c a x (branch s d b y e)
 
+-- the tree after it
 abbrev pub after_turn : Side → Bool → Bool → Shape → ℕ → Shape → ℕ → Shape → Shape
 after_turn s c d a x b y e = branch s d (branch s c a x b) y e

@@ -8,6 +8,7 @@ abbrev pub child_word : Side → ℕ
 child_word Left = 1
 child_word Right = 2
 
+-- the other side
 abbrev pub other_of : Side → Side
 other_of Left = Right
 other_of Right = Left
