@@ -12,11 +12,17 @@ use directive_text::Directive;
 /// For each setting that is inherited, the innermost block that has a directive of it, or none.
 #[derive(Clone, Copy)]
 pub struct Origins<'a> {
+    /// The block of `limit_req`.
     pub req: &'a [Directive],
+    /// The block of `limit_conn`.
     pub conn: &'a [Directive],
+    /// The block of `limit_req_status`.
     pub req_status: &'a [Directive],
+    /// The block of `limit_conn_status`.
     pub conn_status: &'a [Directive],
+    /// The block of `limit_req_dry_run`.
     pub req_dry: &'a [Directive],
+    /// The block of `limit_conn_dry_run`.
     pub conn_dry: &'a [Directive],
 }
 

@@ -20,6 +20,8 @@ pub(crate) enum Symbol {
 /// A symbol with the line of its first byte, counted from 1.
 #[derive(Debug, Drop)]
 pub(crate) struct PlacedSymbol {
+    /// The line.
     pub line: u64,
+    /// The symbol.
     pub symbol: Symbol,
 }

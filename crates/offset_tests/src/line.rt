@@ -9,16 +9,22 @@ use zone_region::{Block, Blocks};
 /// A place in a full queue.
 #[derive(Clone, Copy, Debug)]
 pub enum Spot {
+    /// The last entry.
     Back,
+    /// The one between.
     Middle,
+    /// The first entry.
     Front,
 }
 
 /// What is done to a full queue.
 #[derive(Clone, Copy, Debug)]
 pub enum Change {
+    /// Nothing.
     Nothing,
+    /// The entry moves to the front.
     ToFront(Spot),
+    /// The entry leaves.
     Out(Spot),
 }
 

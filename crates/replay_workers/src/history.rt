@@ -8,17 +8,23 @@ use zone_object::Entry;
 pub enum ZoneHistory {
     /// A request zone.
     Req {
+        /// The zone.
         zone: ReqZone,
+        /// The calls to it with its replies.
         entries: Vec<Entry<ReqZone>>,
     },
     /// A connection zone.
     Conn {
+        /// The zone.
         zone: ConnZone,
+        /// The calls to it with its replies.
         entries: Vec<Entry<ConnZone>>,
     },
     /// An upstream's zone.
     Peer {
+        /// The zone.
         zone: PeerZone,
+        /// The calls to it with its replies.
         entries: Vec<Entry<PeerZone>>,
     },
 }

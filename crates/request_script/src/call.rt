@@ -6,20 +6,44 @@ use req_zone::{ReqCall, ReqReply};
 #[derive(Debug, Drop)]
 pub enum ZoneCall {
     /// A call to a request zone.
-    Req { zone: u32, call: ReqCall },
+    Req {
+        /// The zone's number.
+        zone: u32,
+        /// The call.
+        call: ReqCall,
+    },
     /// A call to a connection zone.
-    Conn { zone: u32, call: ConnCall },
+    Conn {
+        /// The zone's number.
+        zone: u32,
+        /// The call.
+        call: ConnCall,
+    },
     /// A call to an upstream's zone.
-    Peer { zone: u32, call: PeerCall },
+    Peer {
+        /// The zone's number.
+        zone: u32,
+        /// The call.
+        call: PeerCall,
+    },
 }
 
 /// What a zone answers.
 #[derive(Clone, Copy, Debug)]
 pub enum ZoneReply {
     /// What a request zone answers.
-    Req { reply: ReqReply },
+    Req {
+        /// The reply.
+        reply: ReqReply,
+    },
     /// What a connection zone answers.
-    Conn { reply: ConnReply },
+    Conn {
+        /// The reply.
+        reply: ConnReply,
+    },
     /// What an upstream's zone answers.
-    Peer { reply: PeerReply },
+    Peer {
+        /// The reply.
+        reply: PeerReply,
+    },
 }

@@ -4,7 +4,10 @@ pub enum Outcome {
     /// It goes on.
     Pass,
     /// A limit refuses it, with this status.
-    Limited { status: u32 },
+    Limited {
+        /// The status of the answer, from 400 to 599.
+        status: u32,
+    },
     /// No server can take it: 502.
     Gateway,
 }
@@ -34,9 +37,15 @@ pub enum ConnStatus {
     /// It goes on.
     Passed,
     /// The limit of this zone refuses it.
-    Rejected { zone: u32 },
+    Rejected {
+        /// The number of the limit's zone.
+        zone: u32,
+    },
     /// The limit of this zone would refuse it, in a dry run.
-    RejectedDry { zone: u32 },
+    RejectedDry {
+        /// The number of the limit's zone.
+        zone: u32,
+    },
 }
 
 /// For which excess a request is delayed or refused.
@@ -45,7 +54,10 @@ pub enum Excess {
     /// It is neither.
     Unset,
     /// This excess, in thousandths of a request.
-    Amount { value: u64 },
+    Amount {
+        /// The excess.
+        value: u64,
+    },
     /// The zone had no block for a new key.
     Full,
 }
@@ -85,6 +97,7 @@ pub enum Decision {
     Busy,
     /// Another server takes the request.
     NextPeer {
+        /// The server.
         peer: PeerAt,
     },
     /// No other server can take it: 502.
