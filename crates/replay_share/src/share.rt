@@ -15,7 +15,7 @@ use std::alloc::Global;
 use zone_config::Config;
 use zone_outside::NoMemory;
 
-/// The most calls that one line makes: two for each of 16 zones.
+/// The most calls that one line makes, to all zones.
 const MOST_CALLS: u32 = 32;
 
 /// Decides the next line of a share.

@@ -54,7 +54,7 @@ PermitsLaw = AtNextLine (λ config lines next asked turn. All (IsLineOf (length 
 abbrev pub KindsLaw : Type 0
 KindsLaw = AtNextLine (λ config lines next asked turn. AsksKinds config.zones turn)
 
--- A line is decided after at most 32 calls: two for each of 16 zones.
+-- A line is decided after at most 32 calls.
 abbrev pub EndsLaw : Type 0
 EndsLaw = AtNextLine (λ config lines next asked turn. AsksAtMost 32 turn)
 
