@@ -3,7 +3,8 @@ ghost use Rattle.std.specs.Prelude.{◌<◌};
 use crate::conn_calls::{made, opened};
 use crate::conn_plain::{PlainConn, PlainEntry};
 use crate::draws::Draws;
-use crate::reader::{Form, find, word};
+use crate::plain_slab;
+use crate::reader::{Form, count_nodes, find, word};
 use conn_zone::ConnReply::{AtLimit, Closed, NoRoom, Opened};
 use conn_zone::{ConnCall, ConnReply, ConnZone};
 use std::alloc::Global;
@@ -49,13 +50,16 @@ fn compare_node(rt: &impl Abort, zone: &ConnZone, context: u64, entry: &PlainEnt
 }
 
 /// Compares the words of a zone with the plain table, and how full it is.
-fn compare(rt: &impl Abort, zone: &ConnZone, plain: &PlainConn) {
+fn compare(rt: &impl Abort, alloc: Global, zone: &ConnZone, plain: &PlainConn) -> Result<(), Fail> {
     let context = word(rt, zone, 0, 23);
     for entry in &plain.entries {
         compare_node(rt, zone, context, entry);
     }
-    assert_eq!(rt; zone.entry_count(), plain.entries.len() as u64);
-    assert_eq!(rt; zone.free_count(), plain.slab.free_pages());
+    let entries = plain.entries.len() as u64;
+    assert_eq!(rt; zone.entry_count(), entries);
+    count_nodes(rt, alloc, zone, context, entries)?;
+    plain_slab::compare(rt, zone, &plain.slab);
+    Ok(())
 }
 
 /// How often each reply came.
@@ -105,7 +109,7 @@ fn generated(
         }
         seen = seen.with(reply);
         if n % 100 == 99 {
-            compare(rt, journal.object(), &plain);
+            compare(rt, alloc, journal.object(), &plain)?;
         }
     }
     Ok(seen)

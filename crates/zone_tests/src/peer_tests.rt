@@ -178,6 +178,11 @@ fn compare_list(rt: &impl Abort, zone: &PeerZone, at: u64, peers: &[PlainPeer]) 
 /// Compares the words of a zone with the plain lists.
 fn compare(rt: &impl Abort, zone: &PeerZone, plain: &Upstream) {
     let context = word(rt, zone, 0, 23);
+    let method = match plain.method {
+        Method::Round => 0,
+        Method::Least => 1,
+    };
+    assert_eq!(rt; word(rt, zone, context, 2), method);
     let primary = word(rt, zone, context, 0);
     compare_list(rt, zone, primary, &plain.primary);
     let single = word(rt, zone, primary, 2);
@@ -186,6 +191,7 @@ fn compare(rt: &impl Abort, zone: &PeerZone, plain: &Upstream) {
     assert_eq!(rt; backup == 0, plain.backup.is_empty());
     if backup != 0 {
         compare_list(rt, zone, backup, &plain.backup);
+        assert_eq!(rt; word(rt, zone, backup, 2), 0);
     }
 }
 

@@ -2,6 +2,7 @@ use slab_model::PlainSlab;
 use std::alloc::Global;
 use std::process::Abort;
 use std::test::Fail;
+use zone_object::ZoneView;
 use zone_region::Block;
 
 /// A plain slab for a zone of so many bytes, once the blocks of these sizes were granted of it.
@@ -41,4 +42,12 @@ pub(crate) fn give_back<R: Abort>(
     assert!(*rt; slab.live_bytes(block) > 0);
     slab.give_back(alloc, block)?;
     Ok(())
+}
+
+/// Asks that a zone has as many free pages as the plain slab, and the same statistics of each class.
+pub(crate) fn compare<R: Abort, V: ZoneView>(rt: &R, zone: &V, slab: &PlainSlab) {
+    assert_eq!(*rt; zone.free_count(), slab.free_pages());
+    for class in 0..9u32 {
+        assert_eq!(*rt; zone.stat_of(class), slab.stat(class), "class {class}");
+    }
 }

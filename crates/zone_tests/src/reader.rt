@@ -1,5 +1,7 @@
+use std::alloc::Global;
 use std::cmp::Ordering;
 use std::process::Abort;
+use std::test::Fail;
 use zone_object::ZoneView;
 
 /// Word `i` of the block at an offset.
@@ -53,6 +55,33 @@ pub(crate) struct Form {
 fn length_of<R: Abort, V: ZoneView>(rt: &R, zone: &V, form: Form, node: u64) -> u64 {
     assert!(*rt; form.divisor > 0 && form.bound > 0);
     word(rt, zone, node, 4) / form.divisor % form.bound
+}
+
+/// Asks that the tree has so many nodes, each of which names the node above it: the sentinel ends each way.
+pub(crate) fn count_nodes<R: Abort, V: ZoneView>(
+    rt: &R,
+    alloc: Global,
+    zone: &V,
+    context: u64,
+    wanted: u64,
+) -> Result<(), Fail> {
+    let sentinel = word(rt, zone, context, 1);
+    let mut ways = Vec::new(alloc);
+    ways.push((word(rt, zone, context, 0), 0))?;
+    let mut nodes = 0u64;
+    for _way in 0..=wanted.saturating_mul(2) {
+        let Some((node, above)) = ways.pop() else {
+            break;
+        };
+        if node != sentinel {
+            assert_eq!(*rt; word(rt, zone, node, 3), above);
+            nodes = nodes.saturating_add(1);
+            ways.push((word(rt, zone, node, 1), node))?;
+            ways.push((word(rt, zone, node, 2), node))?;
+        }
+    }
+    assert_eq!(*rt; (nodes, ways.len()), (wanted, 0));
+    Ok(())
 }
 
 /// The node of a key, by a walk from the root: the sentinel ends it.

@@ -3,7 +3,8 @@ ghost use Rattle.zone_object.specs.History.{own};
 ghost use Rattle.req_zone.specs.Object.{given as given_in, back as back_in, given_by, back_by};
 
 use crate::draws::Draws;
-use crate::reader::{Form, find, word};
+use crate::plain_slab;
+use crate::reader::{Form, count_nodes, find, word};
 use crate::req_plain::{PlainEntry, PlainReq};
 use req_zone::ReqReply::{Accounted, Again, Busy, NoRoom, Pass, Released};
 use req_zone::{ReqCall, ReqReply, ReqSpec, ReqZone};
@@ -164,7 +165,7 @@ fn compare_node(rt: &impl Abort, zone: &ReqZone, context: u64, entry: &PlainEntr
 }
 
 /// Compares the words of a zone with the plain table: the queue from the front, each of its nodes, and how full it is.
-fn compare(rt: &impl Abort, zone: &ReqZone, plain: &PlainReq) {
+fn compare(rt: &impl Abort, alloc: Global, zone: &ReqZone, plain: &PlainReq) -> Result<(), Fail> {
     let context = word(rt, zone, 0, 23);
     let head = context.saturating_add(64);
     let mut before = head;
@@ -177,8 +178,11 @@ fn compare(rt: &impl Abort, zone: &ReqZone, plain: &PlainReq) {
         link = word(rt, zone, link, 1);
     }
     assert_eq!(rt; (link, word(rt, zone, head, 0)), (head, before));
-    assert_eq!(rt; zone.entry_count(), plain.entries.len() as u64);
-    assert_eq!(rt; zone.free_count(), plain.slab.free_pages());
+    let entries = plain.entries.len() as u64;
+    assert_eq!(rt; zone.entry_count(), entries);
+    count_nodes(rt, alloc, zone, context, entries)?;
+    plain_slab::compare(rt, zone, &plain.slab);
+    Ok(())
 }
 
 /// How often each reply came.
@@ -232,7 +236,7 @@ fn generated(
         }
         seen = seen.with(reply);
         if n % 100 == 99 {
-            compare(rt, journal.object(), &plain);
+            compare(rt, alloc, journal.object(), &plain)?;
         }
     }
     Ok(seen)
