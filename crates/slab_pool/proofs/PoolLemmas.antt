@@ -9,9 +9,8 @@ use Rattle.slab_model.specs.declared.shape.Shape.{Shape}
 use Rattle.slab_model.specs.Geometry.{IsInLimits, start_of, pages_of}
 use Rattle.slab_model.specs.State.{Slab, fresh_slab}
 use Rattle.slab_model.specs.Blocks.{IsLive, live_bytes}
-use Rattle.slab_model.specs.Grant.{grant, block_bytes}
+use Rattle.slab_model.specs.Grant.{grant, block_bytes, granted_offset}
 use Rattle.slab_model.specs.Return.{give_back}
-use Rattle.slab_model.specs.Inside.{offset_of}
 use Rattle.slab_model.proofs.ClassLemmas.{zone}
 use Rattle.slab_model.proofs.BlockLaws.{grant-grants, grant-none, give_back-returns, fresh-law, blocks-law}
 use Rattle.slab_pages.specs.Places.{Image, log_ctx_word, data_word, descriptor_word}
@@ -50,11 +49,11 @@ granted-words old new slab size at p some q given kept =
 pub refused-words : (old new : Image) (slab : Slab) (size : ℕ) → LaysPool old slab → LaysPool new (grant slab size).1 → (grant slab size).0 ≡ None → KeepsPages old new → SameBlockWords (block_words old) (block_words new)
 refused-words old new slab size p q none kept at = kept-block old new slab (grant slab size).1 at p q kept ((grant-none slab size none).blocks at)
 
-pub alloc-words : (old new : Image) (slab : Slab) (size : ℕ) (result : Option Block) → LaysPool old slab → 0 < size → LaysPool new (grant slab size).1 → offset_of result ≡ (grant slab size).0 → KeepsPages old new → MatchOption result (SameBlockWords (block_words old) (block_words new)) (λ b. GrantsWords (block_words old) (block_words new) b.at (block_bytes slab size / 8))
+pub alloc-words : (old new : Image) (slab : Slab) (size : ℕ) (result : Option Block) → LaysPool old slab → 0 < size → LaysPool new (grant slab size).1 → granted_offset result ≡ (grant slab size).0 → KeepsPages old new → MatchOption result (SameBlockWords (block_words old) (block_words new)) (λ b. GrantsWords (block_words old) (block_words new) b.at (block_bytes slab size / 8))
 alloc-words old new slab size None p some q is kept = refused-words old new slab size p q (sym is) kept
 alloc-words old new slab size (Some b) p some q is kept = granted-words old new slab size b.at p some q (sym is) kept
 
-pub granted-room : (old new : Image) (slab : Slab) (size : ℕ) (result : Option Block) → LaysPool old slab → 0 < size → LaysPool new (grant slab size).1 → offset_of result ≡ (grant slab size).0 → IfSome result (λ b. size ≤ 8 * length (block_words new b.at))
+pub granted-room : (old new : Image) (slab : Slab) (size : ℕ) (result : Option Block) → LaysPool old slab → 0 < size → LaysPool new (grant slab size).1 → granted_offset result ≡ (grant slab size).0 → IfSome result (λ b. size ≤ 8 * length (block_words new b.at))
 granted-room old new slab size None p some q is = cc
 granted-room old new slab size (Some b) p some q is =
     let g = grant-grants slab size b.at p.sound some (sym is) in

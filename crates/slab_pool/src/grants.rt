@@ -5,8 +5,7 @@ ghost use Rattle.slab_model.specs.Geometry.{greatest_zone, class_count, blocks_i
 ghost use Rattle.slab_model.specs.Runs.{first_fit};
 ghost use Rattle.slab_model.specs.State.{Slab, list_of, page_at};
 ghost use Rattle.slab_model.specs.Blocks.{used_in};
-ghost use Rattle.slab_model.specs.Grant.{grant as granted, grant_from_list as granted_from_list, grant_in_new_page as granted_in_new_page, grant_in_page as granted_in_page};
-ghost use Rattle.slab_model.specs.Inside.{offset_of as offset_in};
+ghost use Rattle.slab_model.specs.Grant.{grant as granted, grant_from_list as granted_from_list, grant_in_new_page as granted_in_new_page, grant_in_page as granted_in_page, granted_offset};
 ghost use Rattle.slab_pages.specs.SlabLayout.{LaysSlab};
 ghost use Rattle.slab_pool.specs.Bits.{HasBits};
 ghost use Rattle.slab_pool.specs.Pool.{LaysPool};
@@ -87,7 +86,7 @@ fn grant_in_new_page(pages: &mut Pages, class: u32) -> Option<Block>
     requires known { class < class_count pages.old.shape }
     requires laid { ((slab : Slab) × LaysPool pages.old slab × (list_of slab class ≡ [])) }
     ensures granted { (slab : Slab) → LaysPool pages.old slab → list_of slab class ≡ [] →
-        Answers (granted_in_new_page slab class (first_fit 1 slab.runs)) (offset_in result) pages.new }
+        Answers (granted_in_new_page slab class (first_fit 1 slab.runs)) (granted_offset result) pages.new }
     ensures kept { KeepsPages pages.old pages.new }
 {
     match pages.take(1) {
@@ -103,7 +102,7 @@ fn grant_in_new_page(pages: &mut Pages, class: u32) -> Option<Block>
 fn grant_in_class(pages: &mut Pages, class: u32) -> Option<Block>
     requires known { class < class_count pages.old.shape }
     requires laid { ((slab : Slab) × LaysPool pages.old slab) }
-    ensures granted { (slab : Slab) → LaysPool pages.old slab → Answers (granted_from_list slab class (list_of slab class)) (offset_in result) pages.new }
+    ensures granted { (slab : Slab) → LaysPool pages.old slab → Answers (granted_from_list slab class (list_of slab class)) (granted_offset result) pages.new }
     ensures kept { KeepsPages pages.old pages.new }
 {
     match first_page(pages, class) {
@@ -117,7 +116,7 @@ pub(crate) fn grant(pages: &mut Pages, size: u64) -> Option<Block>
     requires some { 0 < size }
     requires small { size ≤ greatest_zone }
     requires laid { ((slab : Slab) × LaysPool pages.old slab) }
-    ensures block { (slab : Slab) → LaysPool pages.old slab → offset_in result ≡ (granted slab size).0 }
+    ensures block { (slab : Slab) → LaysPool pages.old slab → granted_offset result ≡ (granted slab size).0 }
     ensures laid { (slab : Slab) → LaysPool pages.old slab → LaysPool pages.new (granted slab size).1 }
     ensures kept { KeepsPages pages.old pages.new }
 {

@@ -3,10 +3,9 @@ ghost use Rattle.zone_region.specs.Words.{SetsWord, word_at};
 ghost use Rattle.slab_model.specs.Geometry.{greatest_zone, class_count, pages_of};
 ghost use Rattle.slab_model.specs.State.{Slab, fresh_slab, stat_of};
 ghost use Rattle.slab_model.specs.Counting.{free_pages as free_pages_of};
-ghost use Rattle.slab_model.specs.Grant.{grant as granted, block_bytes};
+ghost use Rattle.slab_model.specs.Grant.{grant as granted, block_bytes, granted_offset};
 ghost use Rattle.slab_model.specs.Return.{give_back as given_back};
 ghost use Rattle.slab_model.specs.Blocks.{IsLive};
-ghost use Rattle.slab_model.specs.Inside.{offset_of};
 ghost use Rattle.slab_pages.specs.Shapes.{shape_in};
 ghost use Rattle.slab_pages.specs.Places.{log_ctx_word, data_word};
 ghost use Rattle.slab_pages.specs.SlabLayout.{IsOpened};
@@ -110,7 +109,7 @@ impl Pool {
     pub fn alloc(&mut self, size: u64) -> Option<Block>
         requires some { 0 < size }
         requires small { size ≤ greatest_zone }
-        ensures block { (slab : Slab) → LaysPool self.old slab → offset_of result ≡ (granted slab size).0 }
+        ensures block { (slab : Slab) → LaysPool self.old slab → granted_offset result ≡ (granted slab size).0 }
         ensures laid { (slab : Slab) → LaysPool self.old slab → LaysPool self.new (granted slab size).1 }
         ensures words { (slab : Slab) → LaysPool self.old slab →
             MatchOption result
@@ -127,7 +126,7 @@ impl Pool {
     pub fn calloc(&mut self, size: u64) -> Option<Block>
         requires some { 0 < size }
         requires small { size ≤ greatest_zone }
-        ensures block { (slab : Slab) → LaysPool self.old slab → offset_of result ≡ (granted slab size).0 }
+        ensures block { (slab : Slab) → LaysPool self.old slab → granted_offset result ≡ (granted slab size).0 }
         ensures laid { (slab : Slab) → LaysPool self.old slab → LaysPool self.new (granted slab size).1 }
         ensures words { (slab : Slab) → LaysPool self.old slab →
             MatchOption result

@@ -1,9 +1,8 @@
 ghost use Rattle.std.specs.Prelude.{◌≡◌, ℕ, ◌<◌, ◌≤◌, Some, Option};
 ghost use Rattle.slab_model.specs.declared.page.PageState.TheVariants.{First};
-ghost use Rattle.slab_model.specs.Inside.{offset_of as offset_in};
 ghost use Rattle.slab_model.specs.Runs.{first_fit};
 ghost use Rattle.slab_model.specs.State.{Slab, page_at};
-ghost use Rattle.slab_model.specs.Grant.{grant_run as granted_run};
+ghost use Rattle.slab_model.specs.Grant.{grant_run as granted_run, granted_offset};
 ghost use Rattle.slab_model.specs.Return.{give_pages as given_pages};
 ghost use Rattle.slab_pool.specs.Pool.{LaysPool};
 ghost use Rattle.slab_pool.specs.Live.{KeepsPages};
@@ -20,7 +19,7 @@ pub(crate) fn grant_run(pages: &mut Pages, count: u64) -> Option<Block>
     requires some { 0 < count }
     requires laid { ((slab : Slab) × LaysPool pages.old slab) }
     ensures block { (slab : Slab) → LaysPool pages.old slab →
-        offset_in result ≡ (granted_run slab count (first_fit count slab.runs)).0 }
+        granted_offset result ≡ (granted_run slab count (first_fit count slab.runs)).0 }
     ensures laid { (slab : Slab) → LaysPool pages.old slab →
         LaysPool pages.new (granted_run slab count (first_fit count slab.runs)).1 }
     ensures kept { KeepsPages pages.old pages.new }

@@ -1,7 +1,6 @@
 use Rattle.std.proofs.Common.{ℕ, List, Some, sym, subst}
 use Rattle.slab_model.specs.State.{list_of}
-use Rattle.slab_model.specs.Grant.{grant_from_list}
-use Rattle.slab_model.specs.Inside.{offset_of}
+use Rattle.slab_model.specs.Grant.{grant_from_list, granted_offset}
 use Rattle.slab_pool.specs.PoolSteps.{Answers}
 use Rattle.slab_pool.proofs.ClassGrants.{pool-list}
 use Rattle.slab_pool.proofs.grants.grant_in_class.Goals as goal
@@ -23,4 +22,4 @@ returns-in-Some-clause-granted c = λ slab p.
 pub returns-in-None-clause-granted : goal.returns-in-None-clause-granted
 returns-in-None-clause-granted c = λ slab p.
     let h = c.in-None.ensures (list_of slab c.args.class) (pool-list _ slab c.args.class p c.requires.known) in
-    subst (λ (ps : List ℕ). Answers (grant_from_list slab c.args.class ps) (offset_of c.grant_in_new_page.result) c.grant_in_new_page.new.pages) (sym h) (c.grant_in_new_page.ensures.granted slab p h)
+    subst (λ (ps : List ℕ). Answers (grant_from_list slab c.args.class ps) (granted_offset c.grant_in_new_page.result) c.grant_in_new_page.new.pages) (sym h) (c.grant_in_new_page.ensures.granted slab p h)
